@@ -1,0 +1,6 @@
+pub mod Basics
+pub mod Syntax
+pub mod Semantics
+pub mod Encoding
+pub mod Validity
+pub mod Command

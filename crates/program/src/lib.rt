@@ -1,0 +1,1 @@
+// The language of the programs that are analysed; its definitions are in specs/.
