@@ -1,0 +1,4 @@
+pub mod Quotient
+pub mod Combining
+pub mod Widening
+pub mod Reckoning

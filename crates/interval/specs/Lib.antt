@@ -1,0 +1,4 @@
+pub mod Interval
+pub mod Arithmetic
+pub mod Of
+pub mod Entry
