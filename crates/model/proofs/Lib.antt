@@ -1,0 +1,16 @@
+pub mod Order
+pub mod Range
+pub mod Memory
+pub mod Shown
+pub mod Steadily
+pub mod Rightly
+pub mod Start
+pub mod Promise
+pub mod Session
+pub mod Owed
+pub mod Load
+pub mod Texts
+pub mod Few
+pub mod Analysed
+pub mod Laid
+pub mod Rows

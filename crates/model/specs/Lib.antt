@@ -1,0 +1,5 @@
+pub mod Promise
+pub mod Memory
+pub mod Machine
+pub mod Entry
+pub mod Session
