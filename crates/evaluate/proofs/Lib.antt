@@ -1,0 +1,4 @@
+pub mod ReadyParts
+pub mod Expressions
+pub mod Comparisons
+pub mod Tests
