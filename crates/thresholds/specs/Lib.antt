@@ -1,0 +1,3 @@
+pub mod Nearest
+pub mod Collecting
+pub mod Statements
