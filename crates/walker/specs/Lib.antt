@@ -1,0 +1,4 @@
+pub mod Table
+pub mod Ready
+pub mod Walk
+pub mod Store
