@@ -1,0 +1,4 @@
+pub mod Entry
+pub mod Export
+pub mod Loading
+pub mod Slots
