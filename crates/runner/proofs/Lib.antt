@@ -1,0 +1,10 @@
+mod Placed
+mod Words
+mod Arrays
+mod Inputs
+mod ReadyParts
+mod StmtParts
+mod Expressions
+mod Tests
+mod Statements
+mod Loading
