@@ -1,4 +1,7 @@
 // The plain analyser. What is proved of it are the contracts of these functions.
+
+#![tactic(auto)]
+
 ghost use Rattle.analysis.specs.Statements.{EvalSound, TestSound, JoinSound, RoundsSuffice, MoreRoundsSame, LoopFreeSame, AnalyseSound, MissesNothing};
 ghost use Rattle.analysis.specs.IntervalDomain.{AnalyseIsWalk};
 ghost use Rattle.analysis.specs.OnePass.{OnePass};

@@ -1,4 +1,7 @@
 // Bytes and numbers read from a text, past whose end there are zeros.
+
+#![tactic(auto)]
+
 ghost use Rattle.std.specs.Prelude.{◌≡◌, ◌+◌, ◌≤◌, length, slice_index};
 ghost use Rattle.encoding.specs.Standing.{word_at};
 

@@ -1,4 +1,7 @@
 // Compares what the analyser tells of a program with what its runs do.
+
+#![tactic(auto)]
+
 mod examined;
 mod missing;
 

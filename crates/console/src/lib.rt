@@ -1,4 +1,7 @@
 // What a line at the keyboard asks, and the words in which answers are printed.
+
+#![tactic(auto)]
+
 ghost use Rattle.std.specs.Prelude.{◌≡◌, IfOk, string_bytes};
 ghost use Rattle.console.specs.Lines.{Asks, fault_words, refusal_words, alarm_words, bounds_words, refused_words};
 

@@ -1,4 +1,7 @@
 // The encoding of commands: no two are encoded alike, and each can be read back.
+
+#![tactic(auto)]
+
 ghost use Rattle.encoding.specs.Statements.{EncodedOnce, ReadsBack, ReadsOnly};
 
 /// No two valid commands are encoded alike.

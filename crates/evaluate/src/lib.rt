@@ -1,4 +1,7 @@
 // What expressions and tests come to in an abstract state, worked out over their bytes.
+
+#![tactic(auto)]
+
 mod comparison;
 mod expression;
 mod test;

@@ -1,4 +1,7 @@
 // Runs valid programs: whatever the program, the inputs and the rounds, the outcome is that of the definitions.
+
+#![tactic(auto)]
+
 ghost use Rattle.std.specs.Prelude.{◌≡◌, IfOk};
 ghost use Rattle.program.specs.Semantics.{run_program};
 ghost use Rattle.runner.specs.Whole.{as_outcome};

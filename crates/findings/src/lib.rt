@@ -1,4 +1,7 @@
 // What the analyser tells of a program: its alarms, and where each variable lies at the end.
+
+#![tactic(auto)]
+
 ghost use Rattle.std.specs.Prelude.{◌≡◌, ◌<◌, IfOk, vec_len, OnOk};
 ghost use Rattle.program.specs.Syntax.{Program};
 ghost use Rattle.session.specs.Sessions.{Holds};

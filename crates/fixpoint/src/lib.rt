@@ -1,4 +1,7 @@
 // Widening of abstract states, and how the state of a loop goes on from round to round.
+
+#![tactic(auto)]
+
 mod lists;
 mod rounds;
 

@@ -1,4 +1,7 @@
 // Makes random valid programs from random numbers.
+
+#![tactic(auto)]
+
 mod simple;
 mod statement;
 mod whole;

@@ -1,4 +1,7 @@
 // The grammar of program texts.
+
+#![tactic(auto)]
+
 mod memory;
 mod types;
 

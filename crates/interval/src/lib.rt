@@ -1,5 +1,8 @@
 // Intervals by value: arithmetic, joining, cutting, widening, each exactly as the definitions have it; and the entry that calculates with
 // intervals given by their bounds.
+
+#![tactic(auto)]
+
 ghost use Rattle.std.specs.Prelude.{◌≡◌, ◌+◌, ◌≤◌, length, if◌then◌else◌};
 ghost use Rattle.interval.specs.Arithmetic.{EvalResult as PlainResult};
 ghost use Rattle.interval.specs.Of.{Says};

@@ -1,4 +1,7 @@
 // The analyser at a keyboard: a command a line, and its answer.
+
+#![tactic(auto)]
+
 use console::{Line, alarm_line, bounds_line, parse_line, refusal_line};
 use session::{Answer, Row, Session};
 use std::{fs, io};

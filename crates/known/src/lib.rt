@@ -1,4 +1,7 @@
 // What is known of a program's variables and arrays where one of its statements begins.
+
+#![tactic(auto)]
+
 ghost use Rattle.std.specs.Prelude.{◌≡◌, ◌≤◌, length};
 ghost use Rattle.std.specs.List.Sorted.{IsNonDecreasing};
 ghost use Rattle.program.specs.Syntax.{Stmt};

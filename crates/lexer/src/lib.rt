@@ -1,4 +1,7 @@
 // The tokens of a text.
+
+#![tactic(auto)]
+
 mod keys;
 mod pieces;
 mod scan;

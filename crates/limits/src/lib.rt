@@ -1,4 +1,7 @@
 // Finds the limit that an encoded program passes, and the statement.
+
+#![tactic(auto)]
+
 mod heads;
 mod skip;
 mod walk;

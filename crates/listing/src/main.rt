@@ -1,4 +1,7 @@
 // Lists encoded programs: the text of the program in each file.
+
+#![tactic(auto)]
+
 use anyhow::anyhow;
 use printer::{PrintError, print_program};
 use std::{env, fs};

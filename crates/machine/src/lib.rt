@@ -1,4 +1,7 @@
 // The machine over lent memory and lent bytes: one step of it, with no allocator.
+
+#![tactic(auto)]
+
 ghost use Rattle.std.specs.Prelude.{◌≡◌, ◌≤◌, length, ◌==◌};
 ghost use Rattle.model.specs.Promise.{command, next};
 ghost use Rattle.model.specs.Entry.{own, step_fits};

@@ -1,4 +1,7 @@
 // The machine on lists of numbers: that it answers as defined and misses nothing. What is proved of it are the contracts of these functions.
+
+#![tactic(auto)]
+
 ghost use Rattle.program.specs.Command.{everything};
 ghost use Rattle.model.specs.Promise.{Whole};
 ghost use Rattle.model.specs.Entry.{own};

@@ -1,4 +1,7 @@
 // Reads the tokens of a program's text, and encodes the program.
+
+#![tactic(auto)]
+
 mod cursor;
 mod declaration;
 mod expression;

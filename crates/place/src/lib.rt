@@ -1,4 +1,7 @@
 // The line and the column of a byte of a text.
+
+#![tactic(auto)]
+
 ghost use Rattle.std.specs.Prelude.{◌≡◌, ℕ, ◌+◌, ◌-◌, ◌<◌, ◌≤◌, min, length, ◌≢◌, slice_index};
 ghost use Rattle.place.specs.Lines.{newlines, StandsAt};
 

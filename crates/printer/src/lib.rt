@@ -1,4 +1,7 @@
 // Prints encoded programs as text, which reads back as the same program.
+
+#![tactic(auto)]
+
 ghost use Rattle.std.specs.Prelude.{◌≡◌, ◌∷◌, IfOk, string_bytes};
 ghost use Rattle.reader.specs.Request.{Loads};
 ghost use Rattle.printer.specs.Whole.{LoadedText, ProgramPrinted};

@@ -1,1 +1,3 @@
 // The language of the programs that are analysed; its definitions are in specs/.
+
+#![tactic(auto)]

@@ -1,4 +1,7 @@
 // Random numbers from a seed, and random inputs for programs: the same seed gives the same.
+
+#![tactic(auto)]
+
 mod inputs;
 mod numbers;
 

@@ -1,4 +1,7 @@
 // Reads commands from bytes: it accepts just the encodings of valid commands.
+
+#![tactic(auto)]
+
 ghost use Rattle.std.specs.Prelude.{◌≡◌, nat_lt};
 ghost use Rattle.scanner.specs.Bytes.{ByteAt};
 ghost use Rattle.reader.specs.Request.{Reads};

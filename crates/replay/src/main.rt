@@ -1,4 +1,7 @@
 // Replays session files: for each command its rows in hex, a line each, and then how it ended.
+
+#![tactic(auto)]
+
 use anyhow::anyhow;
 use script::{ScriptError, hex_text, split_commands};
 use session::{Answer, Session};

@@ -1,4 +1,7 @@
 // Runs an encoded program on numbers that come in, each loop for a bounded number of rounds.
+
+#![tactic(auto)]
+
 mod condition;
 mod expression;
 mod memory;

@@ -1,4 +1,7 @@
 // Steps over the parts of an encoded program, and says of each whether it is valid.
+
+#![tactic(auto)]
+
 mod bytes;
 mod scan;
 

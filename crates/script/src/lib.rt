@@ -1,4 +1,7 @@
 // Session files: commands one after another, each behind its length. And bytes in hex, as answers are printed.
+
+#![tactic(auto)]
+
 mod digits;
 mod split;
 

@@ -1,4 +1,7 @@
 // A session with the machine: it holds the machine's memory, is told commands and gives back their answers.
+
+#![tactic(auto)]
+
 mod held;
 mod rows;
 mod run;

@@ -1,4 +1,7 @@
 // Makes a valid program simpler in one place: to show what goes wrong by a small one.
+
+#![tactic(auto)]
+
 mod edit;
 mod walk;
 

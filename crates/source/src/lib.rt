@@ -1,4 +1,7 @@
 // A program's text, read and encoded; or why it is no program, and where.
+
+#![tactic(auto)]
+
 mod errors;
 mod reason;
 mod tables;

@@ -1,4 +1,7 @@
 // Abstract states by value, and what expressions and tests come to in them.
+
+#![tactic(auto)]
+
 mod abstraction;
 mod env;
 mod lists;

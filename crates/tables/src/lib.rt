@@ -1,4 +1,7 @@
 // The machine's memory: where things stand in it, what an analysis found stored in it, and rows shown from it.
+
+#![tactic(auto)]
+
 mod bytes;
 mod layout;
 mod results;

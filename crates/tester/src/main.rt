@@ -1,4 +1,7 @@
 // Makes random programs, runs each on random inputs, and looks for what the analyser does not tell.
+
+#![tactic(auto)]
+
 mod counts;
 mod smallest;
 mod trial;

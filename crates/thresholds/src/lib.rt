@@ -1,4 +1,7 @@
 // A program's thresholds: collected from its bytes, sorted, and found by bisection.
+
+#![tactic(auto)]
+
 ghost use Rattle.thresholds.specs.Statements.{FewThresholds};
 
 mod bisect;

@@ -1,4 +1,7 @@
 // One pass through a program: a statement's bytes, what is known, and the alarms.
+
+#![tactic(auto)]
+
 mod pass;
 mod simple;
 mod table;

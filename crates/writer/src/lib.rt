@@ -1,4 +1,7 @@
 // Writes random expressions and tests of a program as bytes.
+
+#![tactic(auto)]
+
 mod draft;
 mod expression;
 

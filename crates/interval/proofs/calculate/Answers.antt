@@ -27,4 +27,4 @@ unfolding refusal
 returns c =
     let s = c.in-Some.ensures in
     let t = c.in-Some-new.ensures in
-    says_result _ _ _ _ _ _ _ _ (grind (arith, nat_tests)) (c.put-result.ensures _ (rw (← s.0, ← s.1, ← t.0, ← t.1) c.apply.ensures))
+    says_result _ _ _ _ _ _ _ _ (grind (arith, nat_tests)) (c.put_result.ensures _ (rw (← s.0, ← s.1, ← t.0, ← t.1) c.apply.ensures))

@@ -9,5 +9,5 @@ returns-in-Never c w h = element_never c.args.len (as_interval c.args.array) c.i
 pub returns-in-Value : goal.returns-in-Value
 returns-in-Value c w h =
     rw c.after.ensures
-    (element_value c.args.len (as_interval c.args.array) c.in-Value.s c.in-Value.f c.element-of.result w
-    (rw c.in-Value.is at h) c.element-of.ensures)
+    (element_value c.args.len (as_interval c.args.array) c.in-Value.s c.in-Value.f c.element_of.result w
+    (rw c.in-Value.is at h) c.element_of.ensures)
