@@ -9,13 +9,13 @@ pub returns-then-op-ge-OPERATIONS : goal.returns-then-op-ge-OPERATIONS
 unfolding refusal
 returns-then-op-ge-OPERATIONS c = says_refused _ _ _ _ _ _ 0 (grind (arith, nat_tests))
 
-pub returns-in-default : goal.returns-in-default
+pub returns-in_default : goal.returns-in_default
 unfolding refusal
-returns-in-default c = let no = c.in-default.ensures in says_refused _ _ _ _ _ _ 1 (grind (arith, nat_tests))
+returns-in_default c = let no = c.in_default.ensures in says_refused _ _ _ _ _ _ 1 (grind (arith, nat_tests))
 
-pub returns-in-default-new : goal.returns-in-default-new
+pub returns-in_default-new : goal.returns-in_default-new
 unfolding refusal
-returns-in-default-new c = let no = c.in-default-new.ensures in says_refused _ _ _ _ _ _ 1 (grind (arith, nat_tests))
+returns-in_default-new c = let no = c.in_default-new.ensures in says_refused _ _ _ _ _ _ 1 (grind (arith, nat_tests))
 
 pub returns-then-out-lt-PLACES : goal.returns-then-out-lt-PLACES
 unfolding refusal
