@@ -75,7 +75,7 @@ pub returns-in-or : goal.returns-in-or
 unfolding keyword
 returns-in-or c = rw c.in-or.is refl
 
-pub returns-in-default : goal.returns-in-default
+pub returns-in_default : goal.returns-in_default
 unfolding keyword
-returns-in-default c =
-    rw (differs _ _ c.in-default.not-names, differs _ _ c.in-default.not-rows, differs _ _ c.in-default.not-is, differs _ _ c.in-default.not-takes, differs _ _ c.in-default.not-to, differs _ _ c.in-default.not-check, differs _ _ c.in-default.not-if, differs _ _ c.in-default.not-then, differs _ _ c.in-default.not-else, differs _ _ c.in-default.not-end, differs _ _ c.in-default.not-while, differs _ _ c.in-default.not-do, differs _ _ c.in-default.not-nothing, differs _ _ c.in-default.not-not, differs _ _ c.in-default.not-and, differs _ _ c.in-default.not-or) refl
+returns-in_default c =
+    rw (differs _ _ c.in_default.not-names, differs _ _ c.in_default.not-rows, differs _ _ c.in_default.not-is, differs _ _ c.in_default.not-takes, differs _ _ c.in_default.not-to, differs _ _ c.in_default.not-check, differs _ _ c.in_default.not-if, differs _ _ c.in_default.not-then, differs _ _ c.in_default.not-else, differs _ _ c.in_default.not-end, differs _ _ c.in_default.not-while, differs _ _ c.in_default.not-do, differs _ _ c.in_default.not-nothing, differs _ _ c.in_default.not-not, differs _ _ c.in_default.not-and, differs _ _ c.in_default.not-or) refl

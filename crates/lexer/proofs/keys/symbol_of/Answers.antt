@@ -55,6 +55,6 @@ pub returns-in-59 : goal.returns-in-59
 unfolding symbol
 returns-in-59 c = rw c.in-59.is refl
 
-pub returns-in-default : goal.returns-in-default
+pub returns-in_default : goal.returns-in_default
 unfolding symbol
-returns-in-default c = grind (arith, nat_tests)
+returns-in_default c = grind (arith, nat_tests)

@@ -7,13 +7,13 @@ pub returns-in-Some : goal.returns-in-Some
 returns-in-Some c =
     let s = run_some digit c.args.bytes.now c.args.at c.requires.0 c.requires.1 in
     record {
-      is = number_first c.args.bytes.now c.args.at c.digits-end-end.result c.in-Some.n c.digits-end-end.ensures.is c.in-Some.ensures.0 c.in-Some.ensures.1;
-      ends = (omega (arith, c.digits-end-end.ensures.is), c.digits-end-end.ensures.within, c.in-Some.ensures.1);
+      is = number_first c.args.bytes.now c.args.at c.digits_end-end.result c.in-Some.n c.digits_end-end.ensures.is c.in-Some.ensures.0 c.in-Some.ensures.1;
+      ends = (omega (arith, c.digits_end-end.ensures.is), c.digits_end-end.ensures.within, c.in-Some.ensures.1);
     }
 
 pub returns-in-None : goal.returns-in-None
 returns-in-None c =
     record {
-      is = number_large c.args.bytes.now c.args.at c.digits-end-end.result c.digits-end-end.ensures.is c.in-None.ensures;
+      is = number_large c.args.bytes.now c.args.at c.digits_end-end.result c.digits_end-end.ensures.is c.in-None.ensures;
       ends = tt;
     }

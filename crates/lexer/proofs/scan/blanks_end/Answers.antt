@@ -15,13 +15,13 @@ loop-at-preserved c = (
   elim c.if-comment.branch [
     | then-comment w ↦ moved c.args.bytes.now c.loop-at.at _ _ _ _ _ (blanks_comment c.args.bytes.now c.loop-at.at c.loop-at-test.true) w.if-comment.true w.comment-is c.loop-at.invariant.1
     | else-comment+then-byte-eq35 w ↦ moved c.args.bytes.now c.loop-at.at _ _ _ _ _ (blanks_begins c.args.bytes.now c.loop-at.at c.loop-at-test.true w.if-byte-eq35.true) w.if-comment.false w.comment-is c.loop-at.invariant.1
-    | else-comment+else-byte-eq35+else-not-is-white w ↦ moved c.args.bytes.now c.loop-at.at _ _ _ _ _ (blanks_white c.args.bytes.now c.loop-at.at c.loop-at-test.true (sym w.if-not-is-white.ensures)) w.if-comment.false (w.comment-is ∙ w.if-comment.false) c.loop-at.invariant.1
+    | else-comment+else-byte-eq35+else-not-is-white w ↦ moved c.args.bytes.now c.loop-at.at _ _ _ _ _ (blanks_white c.args.bytes.now c.loop-at.at c.loop-at-test.true (sym w.if-not-is_white.ensures)) w.if-comment.false (w.comment-is ∙ w.if-comment.false) c.loop-at.invariant.1
   ],
 )
 
-pub returns-then-not-is-white : goal.returns-then-not-is-white
-returns-then-not-is-white c = record {
-  is = let s = blanks_stops c.args.bytes.now c.loop-at.at c.loop-at-test.true (sym c.if-not-is-white.ensures) (grind (arith, nat_tests)) in
+pub returns-then-not-is_white : goal.returns-then-not-is_white
+returns-then-not-is_white c = record {
+  is = let s = blanks_stops c.args.bytes.now c.loop-at.at c.loop-at-test.true (sym c.if-not-is_white.ensures) (grind (arith, nat_tests)) in
       sym s ∙ (simp c.if-comment.false at c.loop-at.invariant.1);
   within = c.loop-at.invariant.0;
 }

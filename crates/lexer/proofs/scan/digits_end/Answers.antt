@@ -5,11 +5,11 @@ use Rattle.lexer.proofs.scan.digits_end.Goals as goal
 
 pub loop-at-preserved : goal.loop-at-preserved
 loop-at-preserved c =
-    (omega arith, run_more digit c.args.bytes.now c.loop-at.at (omega arith) (sym c.if-is-digit.ensures) ∙ c.loop-at.invariant.1)
+    (omega arith, run_more digit c.args.bytes.now c.loop-at.at (omega arith) (sym c.if-is_digit.ensures) ∙ c.loop-at.invariant.1)
 
-pub returns-else-is-digit : goal.returns-else-is-digit
-returns-else-is-digit c = record {
-  is = sym (run_stops digit c.args.bytes.now c.loop-at.at (omega arith) (sym c.if-is-digit.ensures)) ∙ c.loop-at.invariant.1;
+pub returns-else-is_digit : goal.returns-else-is_digit
+returns-else-is_digit c = record {
+  is = sym (run_stops digit c.args.bytes.now c.loop-at.at (omega arith) (sym c.if-is_digit.ensures)) ∙ c.loop-at.invariant.1;
   within = c.loop-at.invariant.0;
 }
 

@@ -10,14 +10,14 @@ more ds n i b v h e f g = rw (e, f) (sym (at_drop_more (value n) ds i 0 h) ∙ g
 
 pub returns-then-n : goal.returns-then-n
 returns-then-n c =
-    let e = more c.args.digits.now c.loop-d.n c.loop-d.d-index c.from.result c.saturating-sub.result c.loop-d-test.true c.from.ensures c.saturating-sub.ensures c.loop-d.invariant.1 in
+    let e = more c.args.digits.now c.loop-d.n c.loop-d.d-index c.from.result c.saturating_sub.result c.loop-d-test.true c.from.ensures c.saturating_sub.ensures c.loop-d.invariant.1 in
     let g = value_grows (c.loop-d.n * 10 + c.from.result) (drop (c.loop-d.d-index + 1) c.args.digits.now) in
     omega arith
 
 pub loop-d-preserved : goal.loop-d-preserved
 loop-d-preserved c = (
   c.if-n.false,
-  more c.args.digits.now c.loop-d.n c.loop-d.d-index c.from.result c.saturating-sub.result c.loop-d-test.true c.from.ensures c.saturating-sub.ensures c.loop-d.invariant.1,
+  more c.args.digits.now c.loop-d.n c.loop-d.d-index c.from.result c.saturating_sub.result c.loop-d-test.true c.from.ensures c.saturating_sub.ensures c.loop-d.invariant.1,
 )
 
 pub returns : goal.returns

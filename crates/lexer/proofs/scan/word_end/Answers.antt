@@ -5,11 +5,11 @@ use Rattle.lexer.proofs.scan.word_end.Goals as goal
 
 pub loop-at-preserved : goal.loop-at-preserved
 loop-at-preserved c =
-    (omega arith, run_more word_byte c.args.bytes.now c.loop-at.at (omega arith) (sym c.if-is-word-byte.ensures) ∙ c.loop-at.invariant.1)
+    (omega arith, run_more word_byte c.args.bytes.now c.loop-at.at (omega arith) (sym c.if-is_word_byte.ensures) ∙ c.loop-at.invariant.1)
 
-pub returns-else-is-word-byte : goal.returns-else-is-word-byte
-returns-else-is-word-byte c = record {
-  is = sym (run_stops word_byte c.args.bytes.now c.loop-at.at (omega arith) (sym c.if-is-word-byte.ensures)) ∙ c.loop-at.invariant.1;
+pub returns-else-is_word_byte : goal.returns-else-is_word_byte
+returns-else-is_word_byte c = record {
+  is = sym (run_stops word_byte c.args.bytes.now c.loop-at.at (omega arith) (sym c.if-is_word_byte.ensures)) ∙ c.loop-at.invariant.1;
   within = c.loop-at.invariant.0;
 }
 

@@ -6,42 +6,42 @@ use Rattle.scanner.proofs.Forms.{byte_is, no_first, made_same}
 use Rattle.scanner.proofs.Tests.{not_tagged, comparison_made, tests_made, test_past, test_no_room, test_other, then_test}
 use Rattle.scanner.proofs.scan.+scan_test.Goals as goal
 
-pub returns-in-err-tag : goal.returns-in-err-tag
-returns-in-err-tag t c =
+pub returns-in_err-tag : goal.returns-in_err-tag
+returns-in_err-tag t c =
     let a = c.args in
-    rw c.from-residual.ensures (test_past a.vars a.arrays a.room a.text.now a.pos c.in-err-tag.ensures)
+    rw c.from_residual.ensures (test_past a.vars a.arrays a.room a.text.now a.pos c.in_err-tag.ensures)
 
 pub returns-then-room-eq0 : goal.returns-then-room-eq0
 returns-then-room-eq0 t c =
     let a = c.args in
     test_no_room a.vars a.arrays a.room a.text.now a.pos c.if-room-eq0.true
 
-pub returns-in-err-end : goal.returns-in-err-end
-returns-in-err-end t c =
-    rw c.from-residual-in-err-end.ensures
-    (comparison_made c.args.vars c.args.arrays c.args.room (omega arith) c.in-ok-tag.tag c.in-ok-tag.ensures (omega arith) None c.in-err-end.ensures)
+pub returns-in_err-end-in-0 : goal.returns-in_err-end-in-0
+returns-in_err-end-in-0 t c =
+    rw c.from_residual-in_err-end-in-0.ensures
+    (comparison_made c.args.vars c.args.arrays c.args.room (omega arith) c.in_ok-tag.tag c.in_ok-tag.ensures (omega arith) None c.in_err-end-in-0.ensures)
 
-pub returns-in-ok-end : goal.returns-in-ok-end
-returns-in-ok-end t c =
-    comparison_made c.args.vars c.args.arrays c.args.room (omega arith) c.in-ok-tag.tag c.in-ok-tag.ensures (omega arith) (Some c.in-ok-end.end) c.in-ok-end.ensures
+pub returns-in_ok-end-in-0 : goal.returns-in_ok-end-in-0
+returns-in_ok-end-in-0 t c =
+    comparison_made c.args.vars c.args.arrays c.args.room (omega arith) c.in_ok-tag.tag c.in_ok-tag.ensures (omega arith) (Some c.in_ok-end-in-0.end) c.in_ok-end-in-0.ensures
 
 pub returns-in-2 : goal.returns-in-2
-returns-in-2 t c = made_same (not_tagged c.args.vars c.args.arrays c.args.room (omega arith)) (byte_is c.in-ok-tag.ensures c.in-2.is) _ c.scan-test.ensures
+returns-in-2 t c = made_same (not_tagged c.args.vars c.args.arrays c.args.room (omega arith)) (byte_is c.in_ok-tag.ensures c.in-2.is) _ c.scan_test.ensures
 
-pub returns-in-err-first : goal.returns-in-err-first
-returns-in-err-first t c =
+pub returns-in_err-first-in-3 : goal.returns-in_err-first-in-3
+returns-in_err-first-in-3 t c =
     let a = c.args in
-    rw c.from-residual-in-err-first.ensures
-    (tests_made a.vars a.arrays a.room (omega arith) c.in-ok-tag.tag c.in-ok-tag.ensures (omega arith) (omega arith) None
-    (no_first (test_form a.vars a.arrays (a.room - 1)) (λ u. test_form a.vars a.arrays (a.room - 1 - test_size u)) c.in-err-first.ensures))
+    rw c.from_residual-in_err-first-in-3.ensures
+    (tests_made a.vars a.arrays a.room (omega arith) c.in_ok-tag.tag c.in_ok-tag.ensures (omega arith) (omega arith) None
+    (no_first (test_form a.vars a.arrays (a.room - 1)) (λ u. test_form a.vars a.arrays (a.room - 1 - test_size u)) c.in_err-first-in-3.ensures))
 
-pub returns-in-ok-first : goal.returns-in-ok-first
-returns-in-ok-first t c =
+pub returns-in_ok-first-in-3 : goal.returns-in_ok-first-in-3
+returns-in_ok-first-in-3 t c =
     let a = c.args in
-    tests_made a.vars a.arrays a.room (omega arith) c.in-ok-tag.tag c.in-ok-tag.ensures (omega arith) (omega arith) c.scan-test-in-3-2.result
-    (then_test a.vars a.arrays (a.room - 1) a.text.now _ c.in-ok-first.first c.scan-test-in-3-2.result c.in-ok-first.ensures c.scan-test-in-3-2.ensures)
+    tests_made a.vars a.arrays a.room (omega arith) c.in_ok-tag.tag c.in_ok-tag.ensures (omega arith) (omega arith) c.scan_test-in-3-2.result
+    (then_test a.vars a.arrays (a.room - 1) a.text.now _ c.in_ok-first-in-3.first c.scan_test-in-3-2.result c.in_ok-first-in-3.ensures c.scan_test-in-3-2.ensures)
 
-pub returns-in-default : goal.returns-in-default
-returns-in-default t c =
+pub returns-in_default : goal.returns-in_default
+returns-in_default t c =
     let a = c.args in
-    test_other a.vars a.arrays a.room a.text.now a.pos c.in-ok-tag.tag c.in-ok-tag.ensures (omega arith)
+    test_other a.vars a.arrays a.room a.text.now a.pos c.in_ok-tag.tag c.in_ok-tag.ensures (omega arith)

@@ -1,5 +1,5 @@
 -- There are ever fewer tests to come.
 use Rattle.scanner.proofs.scan.+scan_test.Given as goal
 
-abbrev pub decreases-scan-test : goal.decreases-scan-test
-decreases-scan-test l = l.room
+abbrev pub decreases-scan_test : goal.decreases-scan_test
+decreases-scan_test l = l.room

@@ -5,23 +5,23 @@ use Rattle.scanner.specs.Parts.{label_form, byte_form, expr_form}
 use Rattle.scanner.proofs.Forms.{no_first, then_plain}
 use Rattle.scanner.proofs.scan.scan_assign.Goals as goal
 
-pub returns-in-err-variable : goal.returns-in-err-variable
-returns-in-err-variable c =
+pub returns-in_err-variable : goal.returns-in_err-variable
+returns-in_err-variable c =
     let a = c.args in
     let e = expr_form a.vars a.arrays in
-    rw c.from-residual.ensures (no_first (label_form a.label) (λ p. followed (byte_form a.vars) (λ x. e)) c.in-err-variable.ensures)
+    rw c.from_residual.ensures (no_first (label_form a.label) (λ p. followed (byte_form a.vars) (λ x. e)) c.in_err-variable.ensures)
 
-pub returns-in-err-value : goal.returns-in-err-value
-returns-in-err-value c =
+pub returns-in_err-value : goal.returns-in_err-value
+returns-in_err-value c =
     let a = c.args in
     let e = expr_form a.vars a.arrays in
-    rw c.from-residual-in-err-value.ensures
-    (then_plain (label_form a.label) (followed (byte_form a.vars) (λ x. e)) None (λ stop v r x. x) c.in-ok-variable.ensures
-    (no_first (byte_form a.vars) (λ x. e) c.in-err-value.ensures))
+    rw c.from_residual-in_err-value.ensures
+    (then_plain (label_form a.label) (followed (byte_form a.vars) (λ x. e)) None (λ stop v r x. x) c.in_ok-variable.ensures
+    (no_first (byte_form a.vars) (λ x. e) c.in_err-value.ensures))
 
 pub returns : goal.returns
 returns c =
     let a = c.args in
     let e = expr_form a.vars a.arrays in
-    then_plain (label_form a.label) (followed (byte_form a.vars) (λ x. e)) c.scan-expr.result (λ stop v r x. x) c.in-ok-variable.ensures
-    (then_plain (byte_form a.vars) e c.scan-expr.result (λ stop v r x. x) c.in-ok-value.ensures c.scan-expr.ensures)
+    then_plain (label_form a.label) (followed (byte_form a.vars) (λ x. e)) c.scan_expr.result (λ stop v r x. x) c.in_ok-variable.ensures
+    (then_plain (byte_form a.vars) e c.scan_expr.result (λ stop v r x. x) c.in_ok-value.ensures c.scan_expr.ensures)

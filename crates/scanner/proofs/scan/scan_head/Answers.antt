@@ -6,21 +6,21 @@ use Rattle.scanner.proofs.Forms.{no_first, then_plain}
 use Rattle.scanner.proofs.Heads.{head_made}
 use Rattle.scanner.proofs.scan.scan_head.Goals as goal
 
-pub returns-in-err-test : goal.returns-in-err-test
-returns-in-err-test c =
+pub returns-in_err-test : goal.returns-in_err-test
+returns-in_err-test c =
     let a = c.args in
-    rw c.from-residual.ensures
-    (head_made a.vars a.arrays a.label a.text.now a.pos None (no_first (label_form a.label) (λ p. test_form a.vars a.arrays 63) c.in-err-test.ensures))
+    rw c.from_residual.ensures
+    (head_made a.vars a.arrays a.label a.text.now a.pos None (no_first (label_form a.label) (λ p. test_form a.vars a.arrays 63) c.in_err-test.ensures))
 
-pub returns-in-err-last : goal.returns-in-err-last
-returns-in-err-last c =
+pub returns-in_err-last : goal.returns-in_err-last
+returns-in_err-last c =
     let a = c.args in
-    rw c.from-residual-in-err-last.ensures
+    rw c.from_residual-in_err-last.ensures
     (head_made a.vars a.arrays a.label a.text.now a.pos None
-    (then_plain (label_form a.label) (test_form a.vars a.arrays 63) None (λ stop v r x. x) c.in-ok-test.ensures c.in-err-last.ensures))
+    (then_plain (label_form a.label) (test_form a.vars a.arrays 63) None (λ stop v r x. x) c.in_ok-test.ensures c.in_err-last.ensures))
 
 pub returns : goal.returns
 returns c =
     let a = c.args in
-    head_made a.vars a.arrays a.label a.text.now a.pos (Some c.in-ok-last.last)
-    (then_plain (label_form a.label) (test_form a.vars a.arrays 63) (Some c.in-ok-last.last) (λ stop v r x. x) c.in-ok-test.ensures c.in-ok-last.ensures)
+    head_made a.vars a.arrays a.label a.text.now a.pos (Some c.in_ok-last.last)
+    (then_plain (label_form a.label) (test_form a.vars a.arrays 63) (Some c.in_ok-last.last) (λ stop v r x. x) c.in_ok-test.ensures c.in_ok-last.ensures)

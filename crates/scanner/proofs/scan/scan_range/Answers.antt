@@ -3,16 +3,16 @@ use Rattle.std.proofs.Common.{sym, arith}
 use Rattle.scanner.proofs.Parts.{range_past, range_wrong, range_found}
 use Rattle.scanner.proofs.scan.scan_range.Goals as goal
 
-pub returns-in-err-low : goal.returns-in-err-low
-returns-in-err-low c = rw c.from-residual.ensures (range_past c.args.text.now c.args.pos (omega (arith, c.in-err-low.ensures)))
+pub returns-in_err-low : goal.returns-in_err-low
+returns-in_err-low c = rw c.from_residual.ensures (range_past c.args.text.now c.args.pos (omega (arith, c.in_err-low.ensures)))
 
-pub returns-in-err-high : goal.returns-in-err-high
-returns-in-err-high c = rw c.from-residual-in-err-high.ensures (range_past c.args.text.now c.args.pos (omega (arith, c.in-err-high.ensures)))
+pub returns-in_err-high : goal.returns-in_err-high
+returns-in_err-high c = rw c.from_residual-in_err-high.ensures (range_past c.args.text.now c.args.pos (omega (arith, c.in_err-high.ensures)))
 
-pub returns-then-is-range : goal.returns-then-is-range
-returns-then-is-range c =
-    range_found c.args.text.now c.args.pos c.in-ok-low.low c.in-ok-high.high c.in-ok-low.ensures c.in-ok-high.ensures (sym c.if-is-range.ensures)
+pub returns-then-is_range : goal.returns-then-is_range
+returns-then-is_range c =
+    range_found c.args.text.now c.args.pos c.in_ok-low.low c.in_ok-high.high c.in_ok-low.ensures c.in_ok-high.ensures (sym c.if-is_range.ensures)
 
-pub returns-else-is-range : goal.returns-else-is-range
-returns-else-is-range c =
-    range_wrong c.args.text.now c.args.pos c.in-ok-low.low c.in-ok-high.high c.in-ok-low.ensures c.in-ok-high.ensures (sym c.if-is-range.ensures)
+pub returns-else-is_range : goal.returns-else-is_range
+returns-else-is_range c =
+    range_wrong c.args.text.now c.args.pos c.in_ok-low.low c.in_ok-high.high c.in_ok-low.ensures c.in_ok-high.ensures (sym c.if-is_range.ensures)

@@ -5,23 +5,23 @@ use Rattle.scanner.specs.Parts.{label_form, byte_form, exprs_form}
 use Rattle.scanner.proofs.Forms.{no_first, then_plain}
 use Rattle.scanner.proofs.scan.scan_store.Goals as goal
 
-pub returns-in-err-array : goal.returns-in-err-array
-returns-in-err-array c =
+pub returns-in_err-array : goal.returns-in_err-array
+returns-in_err-array c =
     let a = c.args in
     let e = exprs_form a.vars a.arrays in
-    rw c.from-residual.ensures (no_first (label_form a.label) (λ p. followed (byte_form a.arrays) (λ x. e)) c.in-err-array.ensures)
+    rw c.from_residual.ensures (no_first (label_form a.label) (λ p. followed (byte_form a.arrays) (λ x. e)) c.in_err-array.ensures)
 
-pub returns-in-err-index : goal.returns-in-err-index
-returns-in-err-index c =
+pub returns-in_err-index : goal.returns-in_err-index
+returns-in_err-index c =
     let a = c.args in
     let e = exprs_form a.vars a.arrays in
-    rw c.from-residual-in-err-index.ensures
-    (then_plain (label_form a.label) (followed (byte_form a.arrays) (λ x. e)) None (λ stop v r x. x) c.in-ok-array.ensures
-    (no_first (byte_form a.arrays) (λ x. e) c.in-err-index.ensures))
+    rw c.from_residual-in_err-index.ensures
+    (then_plain (label_form a.label) (followed (byte_form a.arrays) (λ x. e)) None (λ stop v r x. x) c.in_ok-array.ensures
+    (no_first (byte_form a.arrays) (λ x. e) c.in_err-index.ensures))
 
 pub returns : goal.returns
 returns c =
     let a = c.args in
     let e = exprs_form a.vars a.arrays in
-    then_plain (label_form a.label) (followed (byte_form a.arrays) (λ x. e)) c.scan-exprs.result (λ stop v r x. x) c.in-ok-array.ensures
-    (then_plain (byte_form a.arrays) e c.scan-exprs.result (λ stop v r x. x) c.in-ok-index.ensures c.scan-exprs.ensures)
+    then_plain (label_form a.label) (followed (byte_form a.arrays) (λ x. e)) c.scan_exprs.result (λ stop v r x. x) c.in_ok-array.ensures
+    (then_plain (byte_form a.arrays) e c.scan_exprs.result (λ stop v r x. x) c.in_ok-index.ensures c.scan_exprs.ensures)

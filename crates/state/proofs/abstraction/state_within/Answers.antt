@@ -10,4 +10,4 @@ returns-in-Unreached-b c = not_within_none c.args.a.now c.args.b.now c.in-Reache
 
 pub returns-in-Reached-b : goal.returns-in-Reached-b
 returns-in-Reached-b c =
-    within_both c.args.a.now c.args.b.now c.in-Reached.w c.in-Reached-b.v _ c.in-Reached.is c.in-Reached-b.is c.lies-within.ensures
+    within_both c.args.a.now c.args.b.now c.in-Reached.w c.in-Reached-b.v _ c.in-Reached.is c.in-Reached-b.is c.lies_within.ensures
