@@ -147,7 +147,7 @@ analyse_in_table n ns ms r (loop p t a) h g =
     (λ w. all_append (InTable (4 * n)) _ _ (at_in_table n p _ g.0 (test_kinds ns t w)) (analyse_in_table n ns ms r a (assume ns true t w) g.1))
 
 -- the library's form of it
-all_numbered : (n : ℕ) (ps : List ℕ) → Lists.All (Numbered n) ps → All (Numbered n) ps
+all_numbered : (n : ℕ) (ps : List ℕ) → Lists.AllByRecursion (Numbered n) ps → All (Numbered n) ps
 all_numbered n [] h = tt
 all_numbered n (p ∷ ps) h = (h.0, all_numbered n ps h.1)
 

@@ -6,7 +6,7 @@ use Rattle.evaluate.proofs.comparison.variable_at.Goals as goal
 use Rattle.evaluate.proofs.comparison.variable_at.Goals.{else-pos-text-via-then-pos-text+else-text-pos-eq1, else-pos-text-via-else-pos-text}
 
 pub returns-then-text-pos-eq1 : goal.returns-then-text-pos-eq1
-returns-then-text-pos-eq1 c e h = is_variable _ _ e h c.if-text-pos-eq1.true _ c.byte-at.ensures
+returns-then-text-pos-eq1 c e h = is_variable _ _ e h c.if-text-pos-eq1.true _ c.byte_at.ensures
 
 pub returns : goal.returns
 returns c e h =

@@ -14,40 +14,40 @@ returns-in-0 t c e ready =
     let h = number_at _ _ e ready.stands c.in-0.is in
     let l = expr_within _ _ _ e ready in
     record {
-      result = number_says _ _ _ _ _ e ready h c.word-at.result _ (c.word-at.ensures (omega (arith, l, h.long))) c.number.ensures;
-      end = omega (arith, l, h.long, c.saturating-add.ensures);
+      result = number_says _ _ _ _ _ e ready h c.word_at.result _ (c.word_at.ensures (omega (arith, l, h.long))) c.number.ensures;
+      end = omega (arith, l, h.long, c.saturating_add.ensures);
     }
 
 pub returns-in-1 : goal.returns-in-1
 returns-in-1 t c e ready =
     let h = variable_at _ _ e ready.stands c.in-1.is in
     record {
-      result = variable_says _ _ _ _ e h c.byte-at.result c.variable.result c.none.result c.byte-at.ensures c.variable.ensures c.none.ensures;
-      end = omega (arith, expr_within _ _ _ e ready, h.long, c.saturating-add-next.ensures);
+      result = variable_says _ _ _ _ e h c.byte_at.result c.variable.result c.none.result c.byte_at.ensures c.variable.ensures c.none.ensures;
+      end = omega (arith, expr_within _ _ _ e ready, h.long, c.saturating_add-next.ensures);
     }
 
 pub returns-in-2 : goal.returns-in-2
 returns-in-2 t c e ready =
     let h = binary_at _ _ e ready.stands c.in-2.is in
-    let next : c.saturating-add-next.result ≡ c.args.pos + 2 = omega (arith, expr_within _ _ _ e ready, h.long, c.saturating-add-next.ensures) in
-    let a = c.eval-from-a.ensures h.a (left_ready _ _ _ e ready h _ next) in
-    let mid : c.eval-from-a.result.end ≡ c.args.pos + 2 + length (encode_expr h.a) = omega (arith, a.end, next) in
-    let b = c.eval-from-b.ensures h.b (right_ready _ _ _ e ready h _ mid) in
+    let next : c.saturating_add-next.result ≡ c.args.pos + 2 = omega (arith, expr_within _ _ _ e ready, h.long, c.saturating_add-next.ensures) in
+    let a = c.eval_from-a.ensures h.a (left_ready _ _ _ e ready h _ next) in
+    let mid : c.eval_from-a.result.end ≡ c.args.pos + 2 + length (encode_expr h.a) = omega (arith, a.end, next) in
+    let b = c.eval_from-b.ensures h.b (right_ready _ _ _ e ready h _ mid) in
     record {
-      result = binary_says _ _ _ _ e h c.byte-at-in-2.result _ c.byte-at-in-2.ensures (c.combine.ensures _ _ a.result b.result);
+      result = binary_says _ _ _ _ e h c.byte_at-in-2.result _ c.byte_at-in-2.ensures (c.combine.ensures _ _ a.result b.result);
       end = omega (arith, h.long, mid, b.end);
     }
 
 pub returns-in-3 : goal.returns-in-3
 returns-in-3 t c e ready =
     let h = element_at _ _ e ready.stands c.in-3.is in
-    let next : c.saturating-add-next.result ≡ c.args.pos + 2 = omega (arith, expr_within _ _ _ e ready, h.long, c.saturating-add-next.ensures) in
-    let a = c.eval-from-a-in-3.ensures h.a (index_ready _ _ _ e ready h _ next) in
+    let next : c.saturating_add-next.result ≡ c.args.pos + 2 = omega (arith, expr_within _ _ _ e ready, h.long, c.saturating_add-next.ensures) in
+    let a = c.eval_from-a-in-3.ensures h.a (index_ready _ _ _ e ready h _ next) in
     record {
-      result = element_says _ _ _ _ e h c.byte-at-r.result c.length-at.result _ _
-          c.byte-at-r.ensures c.length-at.ensures c.array.ensures (c.element.ensures _ a.result);
+      result = element_says _ _ _ _ e h c.byte_at-r.result c.length_at.result _ _
+          c.byte_at-r.ensures c.length_at.ensures c.array.ensures (c.element.ensures _ a.result);
       end = omega (arith, h.long, next, a.end);
     }
 
-pub returns-in-default : goal.returns-in-default
-returns-in-default t c e ready = absurd (omega (arith, first_small _ _ _ e ready))
+pub returns-in_default : goal.returns-in_default
+returns-in_default t c e ready = absurd (omega (arith, first_small _ _ _ e ready))

@@ -12,37 +12,37 @@ pub returns-in-0 : goal.returns-in-0
 returns-in-0 m c t ready =
     let h = less_at _ _ t ready.stands c.in-0.is in
     let parts = less_ready _ _ _ t ready h in
-    split_same _ _ _ t _ _ _ (sym h.is) (omega (arith, h.long)) (c.compare-at.ensures h.a h.b parts.0 parts.1)
+    split_same _ _ _ t _ _ _ (sym h.is) (omega (arith, h.long)) (c.compare_at.ensures h.a h.b parts.0 parts.1)
 
 pub returns-in-1 : goal.returns-in-1
 returns-in-1 m c t ready =
     let h = equal_at _ _ t ready.stands c.in-1.is in
     let parts = equal_ready _ _ _ t ready h in
-    split_same _ _ _ t _ _ _ (sym h.is) (omega (arith, h.long)) (c.compare-at-in-1.ensures h.a h.b parts.0 parts.1)
+    split_same _ _ _ t _ _ _ (sym h.is) (omega (arith, h.long)) (c.compare_at-in-1.ensures h.a h.b parts.0 parts.1)
 
 pub returns-in-2 : goal.returns-in-2
 returns-in-2 m c t ready =
     let h = not_at _ _ t ready.stands c.in-2.is in
-    let a = c.test-from.ensures h.t (inner_ready _ _ _ t ready h) in
-    split_same _ _ _ t _ _ _ (sym h.is) (omega (arith, h.long)) (split_not _ _ h.t _ c.test-from.new.ways a)
+    let a = c.test_from.ensures h.t (inner_ready _ _ _ t ready h) in
+    split_same _ _ _ t _ _ _ (sym h.is) (omega (arith, h.long)) (split_not _ _ h.t _ c.test_from.new.ways a)
 
 pub returns-in-3 : goal.returns-in-3
 returns-in-3 m c t ready =
     let h = and_at _ _ t ready.stands c.in-3.is in
     let parts = and_ready _ _ _ t ready h in
-    let a = c.test-from-in-3.ensures h.t parts.0 in
-    let b = c.test-from-in-3-2.ensures h.u (parts.1 _ a.end) in
+    let a = c.test_from-in-3.ensures h.t parts.0 in
+    let b = c.test_from-in-3-2.ensures h.u (parts.1 _ a.end) in
     split_same _ _ _ t _ _ _ (sym h.is) (omega (arith, h.long, a.end))
-    (split_and _ _ h.t h.u _ _ c.test-from-in-3.new.ways c.test-from-in-3-2.new.ways _ _ a b c.join.ensures c.or-ways.ensures)
+    (split_and _ _ h.t h.u _ _ c.test_from-in-3.new.ways c.test_from-in-3-2.new.ways _ _ a b c.join.ensures c.or-ways.ensures)
 
 pub returns-in-4 : goal.returns-in-4
 returns-in-4 m c t ready =
     let h = or_at _ _ t ready.stands c.in-4.is in
     let parts = or_ready _ _ _ t ready h in
-    let a = c.test-from-in-4.ensures h.t parts.0 in
-    let b = c.test-from-in-4-2.ensures h.u (parts.1 _ a.end) in
+    let a = c.test_from-in-4.ensures h.t parts.0 in
+    let b = c.test_from-in-4-2.ensures h.u (parts.1 _ a.end) in
     split_same _ _ _ t _ _ _ (sym h.is) (omega (arith, h.long, a.end))
-    (split_or _ _ h.t h.u _ _ c.test-from-in-4.new.ways c.test-from-in-4-2.new.ways _ _ a b c.join-in-4.ensures c.or-ways-in-4.ensures)
+    (split_or _ _ h.t h.u _ _ c.test_from-in-4.new.ways c.test_from-in-4-2.new.ways _ _ a b c.join-in-4.ensures c.or-ways-in-4.ensures)
 
-pub returns-in-default : goal.returns-in-default
-returns-in-default m c t ready = absurd (omega (arith, test_first_small _ _ _ t ready))
+pub returns-in_default : goal.returns-in_default
+returns-in_default m c t ready = absurd (omega (arith, test_first_small _ _ _ t ready))

@@ -1,5 +1,5 @@
 -- The bytes that are left grow fewer.
 use Rattle.evaluate.proofs.test.+test_from.Given as goal
 
-abbrev pub decreases-test-from : goal.decreases-test-from
-decreases-test-from l = l.left
+abbrev pub decreases-test_from : goal.decreases-test_from
+decreases-test_from l = l.left
