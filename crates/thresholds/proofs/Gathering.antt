@@ -1,8 +1,8 @@
 -- From a table that is written to a table that is gathered and sorted. Rests on Walking, Low and Few.
 use Rattle.std.proofs.Common.{◌≡◌, ℕ, ◌+◌, ◌-◌, ◌<◌, ◌≤◌, true, List, [], ◌∷◌, ◌++◌, length, get_or, take, drop, sym, refl, ap, ◌∙◌, subst, arith}
 use lib.Seq.{sets-eq}
-use Rattle.std.specs.Ordering.{is_lt, nat_cmp}
-use Rattle.std.specs.List.Sorted.{IsPermutation, IsNonDecreasing, IsSortedWithin}
+use Rattle.std.specs.Ordering.{nat_cmp}
+use Rattle.std.specs.List.Sorted.{IsPermutation, IsNonDecreasing, IsSorted}
 use Rattle.std.proofs.lemmas.List.{length-take, take-append-drop, take_all, take_at, drop_at, take_more}
 use Rattle.std.proofs.lemmas.List.Sorted.{IsNonDecreasingBy-from_sort}
 use Rattle.program.specs.Syntax.{Stmt, Program}
@@ -61,14 +61,14 @@ gathered_within ms T T₁ r h = let e = ap length h.front in let l = length-take
 
 -- its front sorted
 pub gathered_sorted : (ms T T₁ front : List ℕ) (r : ℕ) → Gathered ms T T₁ r → IsPermutation (take r T₁) front → length front ≡ length (take r T₁) →
-    IsSortedWithin (λ x y. is_lt (nat_cmp x y)) front 0 (length (take r T₁)) → Sorted ms T (front ++ drop r T₁) r
+    IsSorted nat_cmp front → Sorted ms T (front ++ drop r T₁) r
 gathered_sorted ms T T₁ front r h s l up =
     let k : length front ≡ r = omega (arith, l, ap length h.front, h.counts) in
     let same = take_at front (drop r T₁) r k in
     record {
       counts = h.counts;
       shuffled = subst (λ (zs : List ℕ). IsPermutation ms zs) (sym same) (subst (λ (zs : List ℕ). IsPermutation zs front) h.front s);
-      rising = subst (λ (zs : List ℕ). IsNonDecreasing zs) (sym same) (IsNonDecreasingBy-from_sort (λ x. x) front (length (take r T₁)) l up);
+      rising = subst (λ (zs : List ℕ). IsNonDecreasing zs) (sym same) (IsNonDecreasingBy-from_sort (λ x. x) front up);
       rest = drop_at front (drop r T₁) r k ∙ h.rest;
     }
 

@@ -34,7 +34,7 @@ fn sort_front(out: &mut [u64], count: usize) -> usize
     if count > out.len() {
         return 0;
     }
-    out[..count].sort();
+    out[..count].sort_unstable();
     count
 }
 

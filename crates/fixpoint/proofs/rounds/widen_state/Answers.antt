@@ -10,4 +10,4 @@ returns-in-Unreached-state c up = merge_second (widen_interval c.args.sorted.now
 
 pub returns-in-Reached-state : goal.returns-in-Reached-state
 returns-in-Reached-state c up =
-    merge_both (widen_interval c.args.sorted.now) c.args.state.now c.args.other.now c.in-Reached-state.w c.in-Reached.v _ c.in-Reached-state.is c.in-Reached.is (c.widen-env.ensures up)
+    merge_both (widen_interval c.args.sorted.now) c.args.state.now c.args.other.now c.in-Reached-state.w c.in-Reached.v _ c.in-Reached-state.is c.in-Reached.is (c.widen_env.ensures up)

@@ -4,5 +4,5 @@ use Rattle.tables.proofs.results.store.Goals as goal
 
 pub returns : goal.returns
 returns c =
-    memory_put c.args.memory.now c.store-ends.new.words c.copy-from-slice.new.self c.args.table.now c.clear.new.words c.args.vars c.no-end.result
-    (as_abstract c.args.state.now) c.requires.0 c.requires.1 c.no-end.ensures c.store-ends.ensures c.copy-from-slice.ensures.after c.clear.ensures
+    memory_put c.args.memory.now c.store_ends.new.words c.copy_from_slice.new.self c.args.table.now c.clear.new.words c.args.vars c.no_end.result
+    (as_abstract c.args.state.now) c.requires.0 c.requires.1 c.no_end.ensures c.store_ends.ensures c.copy_from_slice.ensures.after c.clear.ensures

@@ -13,7 +13,7 @@ returns-in-Reached c =
     let w = c.in-Reached.w in
     let k : length w.values ≡ 64 = omega arith in
     let l : length w.arrays ≡ 16 = omega arith in
-    ends_put c.args.words.now c.store-intervals.new.words c.store-intervals-in-Reached.new.words (as_env w) (as_abstract c.args.state.now)
+    ends_put c.args.words.now c.store_intervals.new.words c.store_intervals-in-Reached.new.words (as_env w) (as_abstract c.args.state.now)
     (ap as_abstract c.in-Reached.is) c.requires
-    (c.store-intervals.ensures ∙ ap (λ (n : ℕ). bounds n (as_intervals w.values)) k)
-    (c.store-intervals-in-Reached.ensures ∙ ap (λ (n : ℕ). bounds n (as_intervals w.arrays)) l)
+    (c.store_intervals.ensures ∙ ap (λ (n : ℕ). bounds n (as_intervals w.values)) k)
+    (c.store_intervals-in-Reached.ensures ∙ ap (λ (n : ℕ). bounds n (as_intervals w.arrays)) l)

@@ -5,12 +5,12 @@ use Rattle.tables.proofs.show.find_mark.Goals as goal
 
 pub loop-i-preserved : goal.loop-i-preserved
 loop-i-preserved c =
-    let clear = eqb-true _ 0 (sym c.if-not-is-clear.ensures) in
+    let clear = eqb-true _ 0 (sym c.if-not-is_clear.ensures) in
     rw (add-one c.loop-i.i) (sym (mark_step c.args.memory.now c.loop-i.i c.requires c.loop-i-test.true clear) ∙ c.loop-i.invariant)
 
-pub returns-then-not-is-clear : goal.returns-then-not-is-clear
-returns-then-not-is-clear c =
-    let marked = eqb-false _ 0 (sym c.if-not-is-clear.ensures) in
+pub returns-then-not-is_clear : goal.returns-then-not-is_clear
+returns-then-not-is_clear c =
+    let marked = eqb-false _ 0 (sym c.if-not-is_clear.ensures) in
     (sym c.loop-i.invariant ∙ mark_found c.args.memory.now c.loop-i.i c.requires c.loop-i-test.true marked, c.loop-i-test.true)
 
 pub returns : goal.returns

@@ -9,6 +9,6 @@ returns-then-memory-ne0 c = end_unreached c.args.memory.now c.args.out.now c.arg
 
 pub returns : goal.returns
 returns c =
-    end_shown c.args.memory.now c.pass-all.new.memory c.args.out.now c.write-number.new.out c.write-number-2.new.out c.args.x
-    c.low-end.result c.high-end.result c.if-x-memory.false c.if-memory-ne0.false c.low-end.ensures c.high-end.ensures
-    c.pass-all.ensures c.write-number.ensures c.write-number-2.ensures
+    end_shown c.args.memory.now c.pass_all.new.memory c.args.out.now c.write_number.new.out c.write_number-2.new.out c.args.x
+    c.low_end.result c.high_end.result c.if-x-memory.false c.if-memory-ne0.false c.low_end.ensures c.high_end.ensures
+    c.pass_all.ensures c.write_number.ensures c.write_number-2.ensures

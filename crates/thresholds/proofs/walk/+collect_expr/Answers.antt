@@ -17,17 +17,17 @@ unfolding expr_thresholds
 returns-in-0 t c e ready =
     let h = number_at _ _ e ready.stands c.in-0.is in
     let i = inside _ _ _ _ _ _ _ ready (omega (arith, h.long)) in
-    let at : c.saturating-add.result ≡ c.args.pos + 9 = omega (arith, i, h.long, c.saturating-add.ensures) in
+    let at : c.saturating_add.result ≡ c.args.pos + 9 = omega (arith, i, h.long, c.saturating_add.ensures) in
     let low = subst (λ (x : Expr). All Low (expr_thresholds x)) h.is ready.room.low in
-    let n = number_read _ _ _ _ _ h.word low.1.0 refl (omega (arith, i, h.long)) c.word-at-n.ensures in
-    leaf _ _ _ _ _ _ 9 _ _ _ _ _ ready at h.long (ap expr_thresholds h.is ∙ ap (λ (m : ℕ). (m - 1) ∷ m ∷ suc m ∷ []) n) c.keep-around-more.ensures
+    let n = number_read _ _ _ _ _ h.word low.1.0 refl (omega (arith, i, h.long)) c.word_at-n.ensures in
+    leaf _ _ _ _ _ _ 9 _ _ _ _ _ ready at h.long (ap expr_thresholds h.is ∙ ap (λ (m : ℕ). (m - 1) ∷ m ∷ suc m ∷ []) n) c.keep_around-more.ensures
 
 pub returns-in-1 : goal.returns-in-1
 unfolding expr_thresholds
 returns-in-1 t c e ready =
     let h = variable_at _ _ e ready.stands c.in-1.is in
     let i = inside _ _ _ _ _ _ _ ready (omega (arith, h.long)) in
-    let at : c.saturating-add-in-1.result ≡ c.args.pos + 2 = omega (arith, i, h.long, c.saturating-add-in-1.ensures) in
+    let at : c.saturating_add-in-1.result ≡ c.args.pos + 2 = omega (arith, i, h.long, c.saturating_add-in-1.ensures) in
     no_part _ _ _ _ _ 2 _ _ _ ready at h.long (ap expr_thresholds h.is)
 
 pub returns-in-2 : goal.returns-in-2
@@ -35,16 +35,16 @@ unfolding expr_thresholds
 returns-in-2 t c e ready =
     let h = binary_at _ _ e ready.stands c.in-2.is in
     let i = inside _ _ _ _ _ _ _ ready (omega (arith, h.long)) in
-    let at : c.saturating-add-in-2.result ≡ c.args.pos + 2 = omega (arith, i, h.long, c.saturating-add-in-2.ensures) in
-    two_parts _ _ _ _ _ _ _ 2 _ _ _ _ _ _ _ _ _ ready at (omega arith) h.long (ap expr_thresholds h.is) h.left h.right (c.collect-expr-a.ensures h.a) (c.collect-expr.ensures h.b)
+    let at : c.saturating_add-in-2.result ≡ c.args.pos + 2 = omega (arith, i, h.long, c.saturating_add-in-2.ensures) in
+    two_parts _ _ _ _ _ _ _ 2 _ _ _ _ _ _ _ _ _ ready at (omega arith) h.long (ap expr_thresholds h.is) h.left h.right (c.collect_expr-a.ensures h.a) (c.collect_expr.ensures h.b)
 
 pub returns-in-3 : goal.returns-in-3
 unfolding expr_thresholds
 returns-in-3 t c e ready =
     let h = element_at _ _ e ready.stands c.in-3.is in
     let i = inside _ _ _ _ _ _ _ ready (omega (arith, h.long)) in
-    let at : c.saturating-add-in-3.result ≡ c.args.pos + 2 = omega (arith, i, h.long, c.saturating-add-in-3.ensures) in
-    one_part _ _ _ _ _ _ 2 _ _ _ _ _ _ ready at (omega arith) h.long (ap expr_thresholds h.is) h.index (c.collect-expr-in-3.ensures h.a)
+    let at : c.saturating_add-in-3.result ≡ c.args.pos + 2 = omega (arith, i, h.long, c.saturating_add-in-3.ensures) in
+    one_part _ _ _ _ _ _ 2 _ _ _ _ _ _ ready at (omega arith) h.long (ap expr_thresholds h.is) h.index (c.collect_expr-in-3.ensures h.a)
 
-pub returns-in-default : goal.returns-in-default
-returns-in-default t c e ready = let k = expr_first _ _ e ready.stands in let l = expr_tag_below e in astray _ _ _ _ _ _ (omega (arith, k, l))
+pub returns-in_default : goal.returns-in_default
+returns-in_default t c e ready = let k = expr_first _ _ e ready.stands in let l = expr_tag_below e in astray _ _ _ _ _ _ (omega (arith, k, l))

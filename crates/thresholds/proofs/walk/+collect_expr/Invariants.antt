@@ -1,4 +1,4 @@
 use Rattle.thresholds.proofs.walk.+collect_expr.Given as goal
 
-abbrev pub decreases-collect-expr : goal.decreases-collect-expr
-decreases-collect-expr l = l.left
+abbrev pub decreases-collect_expr : goal.decreases-collect_expr
+decreases-collect_expr l = l.left

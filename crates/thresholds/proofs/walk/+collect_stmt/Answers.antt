@@ -13,24 +13,24 @@ pub returns-in-5 : goal.returns-in-5
 unfolding stmt_thresholds
 returns-in-5 t c d ready =
     let h = seq_at _ _ d ready.stands c.in-5.is in
-    two_parts _ _ _ _ _ _ _ 1 _ _ _ _ _ _ _ _ _ ready refl (omega arith) h.long (ap stmt_thresholds h.is) h.first h.second (c.collect-stmt-a.ensures h.a) (c.collect-stmt.ensures h.b)
+    two_parts _ _ _ _ _ _ _ 1 _ _ _ _ _ _ _ _ _ ready refl (omega arith) h.long (ap stmt_thresholds h.is) h.first h.second (c.collect_stmt-a.ensures h.a) (c.collect_stmt.ensures h.b)
 
 pub returns-in-6 : goal.returns-in-6
 unfolding stmt_thresholds
 returns-in-6 t c d ready =
     let h = branch_at _ _ d ready.stands c.in-6.is in
     let i = inside _ _ _ _ _ _ _ ready (stmt_long d) in
-    let at : c.saturating-add.result ≡ c.args.pos + 9 = omega (arith, i, h.long, c.saturating-add.ensures) in
+    let at : c.saturating_add.result ≡ c.args.pos + 9 = omega (arith, i, h.long, c.saturating_add.ensures) in
     three_parts _ _ _ _ _ _ _ _ 9 _ _ _ _ _ _ _ _ _ _ _ _ ready at (omega arith) h.long (ap stmt_thresholds h.is) h.condition h.first h.second
-    (c.collect-test-t.ensures h.t) (c.collect-stmt-a-in-6.ensures h.a) (c.collect-stmt-in-6.ensures h.b)
+    (c.collect_test-t.ensures h.t) (c.collect_stmt-a-in-6.ensures h.a) (c.collect_stmt-in-6.ensures h.b)
 
 pub returns-in-7 : goal.returns-in-7
 unfolding stmt_thresholds
 returns-in-7 t c d ready =
     let h = loop_at _ _ d ready.stands c.in-7.is in
     let i = inside _ _ _ _ _ _ _ ready (stmt_long d) in
-    let at : c.saturating-add-in-7.result ≡ c.args.pos + 9 = omega (arith, i, h.long, c.saturating-add-in-7.ensures) in
-    two_parts _ _ _ _ _ _ _ 9 _ _ _ _ _ _ _ _ _ ready at (omega arith) h.long (ap stmt_thresholds h.is) h.condition h.body (c.collect-test-t-in-7.ensures h.t) (c.collect-stmt-in-7.ensures h.a)
+    let at : c.saturating_add-in-7.result ≡ c.args.pos + 9 = omega (arith, i, h.long, c.saturating_add-in-7.ensures) in
+    two_parts _ _ _ _ _ _ _ 9 _ _ _ _ _ _ _ _ _ ready at (omega arith) h.long (ap stmt_thresholds h.is) h.condition h.body (c.collect_test-t-in-7.ensures h.t) (c.collect_stmt-in-7.ensures h.a)
 
-pub returns-in-default : goal.returns-in-default
-returns-in-default t c d ready = let k = stmt_first _ _ d ready.stands in let l = stmt_tag_below d in astray _ _ _ _ _ _ (omega (arith, k, l))
+pub returns-in_default : goal.returns-in_default
+returns-in_default t c d ready = let k = stmt_first _ _ d ready.stands in let l = stmt_tag_below d in astray _ _ _ _ _ _ (omega (arith, k, l))

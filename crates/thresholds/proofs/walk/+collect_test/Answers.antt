@@ -12,18 +12,18 @@ returns-then-left-eq0 t c x ready = nowhere _ _ _ _ _ _ _ _ _ ready (omega (arit
 pub returns-in-0 : goal.returns-in-0
 returns-in-0 t c x ready =
     let h = compares_at c.args.text.now c.args.pos x ready.stands (omega arith) in
-    two_parts _ _ _ _ _ _ _ 1 _ _ _ _ _ _ _ _ _ ready refl (omega arith) h.long h.is h.left h.right (c.collect-expr-a.ensures h.a) (c.collect-expr.ensures h.b)
+    two_parts _ _ _ _ _ _ _ 1 _ _ _ _ _ _ _ _ _ ready refl (omega arith) h.long h.is h.left h.right (c.collect_expr-a.ensures h.a) (c.collect_expr.ensures h.b)
 
 pub returns-in-2 : goal.returns-in-2
 unfolding test_thresholds
 returns-in-2 t c x ready =
     let h = not_at _ _ x ready.stands c.in-2.is in
-    one_part _ _ _ _ _ _ 1 _ _ _ _ _ _ ready refl (omega arith) h.long (ap test_thresholds h.is) h.inner (c.collect-test.ensures h.t)
+    one_part _ _ _ _ _ _ 1 _ _ _ _ _ _ ready refl (omega arith) h.long (ap test_thresholds h.is) h.inner (c.collect_test.ensures h.t)
 
 pub returns-in-3 : goal.returns-in-3
 returns-in-3 t c x ready =
     let h = connects_at c.args.text.now c.args.pos x ready.stands (omega arith) (omega arith) in
-    two_parts _ _ _ _ _ _ _ 1 _ _ _ _ _ _ _ _ _ ready refl (omega arith) h.long h.is h.first h.second (c.collect-test-t.ensures h.t) (c.collect-test-in-3.ensures h.u)
+    two_parts _ _ _ _ _ _ _ 1 _ _ _ _ _ _ _ _ _ ready refl (omega arith) h.long h.is h.first h.second (c.collect_test-t.ensures h.t) (c.collect_test-in-3.ensures h.u)
 
-pub returns-in-default : goal.returns-in-default
-returns-in-default t c x ready = let k = test_first _ _ x ready.stands in let l = test_tag_below x in astray _ _ _ _ _ _ (omega (arith, k, l))
+pub returns-in_default : goal.returns-in_default
+returns-in_default t c x ready = let k = test_first _ _ x ready.stands in let l = test_tag_below x in astray _ _ _ _ _ _ (omega (arith, k, l))

@@ -1,4 +1,4 @@
 use Rattle.thresholds.proofs.walk.+collect_test.Given as goal
 
-abbrev pub decreases-collect-test : goal.decreases-collect-test
-decreases-collect-test l = l.left
+abbrev pub decreases-collect_test : goal.decreases-collect_test
+decreases-collect_test l = l.left
