@@ -104,7 +104,7 @@ can_fail ns t h w f g e faults four = rw (← e) (faulty_or f g (faults_here ns 
 module _ (ns ms : List ℕ) (n : ℕ) (text : List ℕ) (pos left : ℕ) (d : Stmt) (ready : StmtReady text pos left d) where
   pub assign_number : (s : AssignAt text pos d) → Low s.p
   unfolding stmt_numbers
-  assign_number s = (subst (λ (x : Stmt). Rattle.std.specs.List.All Low (stmt_numbers x)) s.is ready.low).0
+  assign_number s = (subst (λ (x : Stmt). Rattle.std.specs.List.AllByRecursion Low (stmt_numbers x)) s.is ready.low).0
 
   -- an assignment whose expression has the result r; h₁ is the state behind it
   assign_by : (s : AssignAt text pos d) (h h₁ : Abstract) (t t₁ : List ℕ) (stmt : ℕ) (f : Faults) (r : ℕ) →
@@ -136,7 +136,7 @@ module _ (ns ms : List ℕ) (n : ℕ) (text : List ℕ) (pos left : ℕ) (d : St
 
   pub store_number : (s : StoreAt text pos d) → Low s.p
   unfolding stmt_numbers
-  store_number s = (subst (λ (x : Stmt). Rattle.std.specs.List.All Low (stmt_numbers x)) s.is ready.low).0
+  store_number s = (subst (λ (x : Stmt). Rattle.std.specs.List.AllByRecursion Low (stmt_numbers x)) s.is ready.low).0
 
   -- a store of what its index and value come to together
   store_by : (s : StoreAt text pos d) (h h₁ : Abstract) (t t₁ : List ℕ) (stmt : ℕ) (f : Faults) (r : ℕ) →
@@ -201,7 +201,7 @@ module _ (ns ms : List ℕ) (n : ℕ) (text : List ℕ) (pos left : ℕ) (d : St
 
   pub check_number : (s : CheckAt text pos d) → Low s.p
   unfolding stmt_numbers
-  check_number s = (subst (λ (x : Stmt). Rattle.std.specs.List.All Low (stmt_numbers x)) s.is ready.low).0
+  check_number s = (subst (λ (x : Stmt). Rattle.std.specs.List.AllByRecursion Low (stmt_numbers x)) s.is ready.low).0
 
   pub check_walked : (s : CheckAt text pos d) (h h₁ : Abstract) (t t₁ : List ℕ) (stmt : ℕ) (f : Faults) (r : ℕ) →
       (pos + 1 + 8 ≤ length text → stmt ≡ word_at text (pos + 1)) → h₁ ≡ assume_here ns true s.t h → Faulty f (check_faults_here ns s.t h) →
