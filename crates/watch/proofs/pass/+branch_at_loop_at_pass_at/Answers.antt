@@ -9,81 +9,81 @@ use Rattle.walker.proofs.Parts.{ready_at, seq_first, seq_second, branch_conditio
 use Rattle.walker.proofs.Statements.{number_is}
 use Rattle.watch.proofs.Watching.{simple_assign, simple_store, simple_input, simple_check, simple_as, watched_skip, watched_seq, watched_branch, watched_loop, watched_at, watched_as, only_number}
 use Rattle.watch.proofs.pass.+branch_at_loop_at_pass_at.Goals as goal
-use Rattle.watch.proofs.pass.+branch_at_loop_at_pass_at.Goals.{pass-at-then-left-eq0-via-then-left-eq0, pass-at-then-left-eq0-via-else-left-eq0+then-pos-task}
+use Rattle.watch.proofs.pass.+branch_at_loop_at_pass_at.Goals.{pass_at-then-left-eq0-via-then-left-eq0, pass_at-then-left-eq0-via-else-left-eq0+then-pos-task}
 
-pub branch-at-returns : goal.branch-at-returns
-branch-at-returns t c x a b rising test first second =
-    let ways = c.test-at-ways.ensures x test in
-    let mid = c.pass-at-mid.ensures a rising (ready_at _ _ _ _ a (sym ways.end) first) in
-    let end = c.pass-at-end.ensures b rising (ready_at _ _ _ _ b (omega (arith, mid.end, ways.end)) second) in
+pub branch_at-returns : goal.branch_at-returns
+branch_at-returns t c x a b rising test first second =
+    let ways = c.test_at-ways.ensures x test in
+    let mid = c.pass_at-mid.ensures a rising (ready_at _ _ _ _ a (sym ways.end) first) in
+    let end = c.pass_at-end.ensures b rising (ready_at _ _ _ _ b (omega (arith, mid.end, ways.end)) second) in
     watched_branch _ _ _ _ _ _ _ x a b _ _ _ _ _ _ _ _ _ _ c.note.ensures
     (watched_at _ _ _ _ _ _ _ _ _ _ _ a _ refl ways.yes mid) (watched_at _ _ _ _ _ _ _ _ _ _ _ b _ (omega (arith, mid.end, ways.end)) ways.no end) (c.join.ensures ∙ join_swap _ _)
 
-pub loop-at-returns : goal.loop-at-returns
-loop-at-returns t c x a rising test body =
-    let settled = c.settle-at-settled.ensures x a rising test body in
-    let ways = c.test-at-ways.ensures x test in
-    let end = c.pass-at-end.ensures a rising (ready_at _ _ _ _ a (sym ways.end) body) in
+pub loop_at-returns : goal.loop_at-returns
+loop_at-returns t c x a rising test body =
+    let settled = c.settle_at-settled.ensures x a rising test body in
+    let ways = c.test_at-ways.ensures x test in
+    let end = c.pass_at-end.ensures a rising (ready_at _ _ _ _ a (sym ways.end) body) in
     watched_loop _ _ _ _ _ _ x a _ _ _ _ _ _ _ _ settled.settles c.note.ensures (watched_at _ _ _ _ _ _ _ _ _ _ _ a _ (omega (arith, ways.end)) ways.yes end) ways.no
 
-pub pass-at-returns-then-left-eq0 : goal.pass-at-returns-then-left-eq0
-pass-at-returns-then-left-eq0 t c d rising h =
+pub pass_at-returns-then-left-eq0 : goal.pass_at-returns-then-left-eq0
+pass_at-returns-then-left-eq0 t c d rising h =
     let long = stmt_long d in
     let within = stmt_within _ _ d h.stands in
     absurd (elim c.then-left-eq0.branch [
-      | pass-at-then-left-eq0-via-then-left-eq0 w ↦ omega (arith, h.enough, w.if-left-eq0.true)
-      | pass-at-then-left-eq0-via-else-left-eq0+then-pos-task w ↦ omega (arith, w.if-pos-task.true)
+      | pass_at-then-left-eq0-via-then-left-eq0 w ↦ omega (arith, h.enough, w.if-left-eq0.true)
+      | pass_at-then-left-eq0-via-else-left-eq0+then-pos-task w ↦ omega (arith, w.if-pos-task.true)
     ])
 
-pub pass-at-returns-in-0 : goal.pass-at-returns-in-0
-pass-at-returns-in-0 t c d rising h =
+pub pass_at-returns-in-0 : goal.pass_at-returns-in-0
+pass_at-returns-in-0 t c d rising h =
     let s = skip_at _ _ d h.stands c.in-0.is in
     watched_as _ _ _ _ _ _ _ _ _ d _ _ s.is (watched_skip _ _ _ _ _ _ _ _ (omega (arith, s.long)))
 
-pub pass-at-returns-in-1 : goal.pass-at-returns-in-1
+pub pass_at-returns-in-1 : goal.pass_at-returns-in-1
 unfolding stmt_numbers
-pass-at-returns-in-1 t c d rising h =
+pass_at-returns-in-1 t c d rising h =
     let s = assign_at _ _ d h.stands c.in-1.is in
-    c.simple-at.ensures d s.p rising h s.number (only_number _ _ _ d _ s.p h s.is refl) (simple_as _ _ _ _ _ d _ s.is (simple_assign _ _ _ _ s.p s.v s.e))
+    c.simple_at.ensures d s.p rising h s.number (only_number _ _ _ d _ s.p h s.is refl) (simple_as _ _ _ _ _ d _ s.is (simple_assign _ _ _ _ s.p s.v s.e))
 
-pub pass-at-returns-in-2 : goal.pass-at-returns-in-2
+pub pass_at-returns-in-2 : goal.pass_at-returns-in-2
 unfolding stmt_numbers
-pass-at-returns-in-2 t c d rising h =
+pass_at-returns-in-2 t c d rising h =
     let s = store_at _ _ d h.stands c.in-2.is in
-    c.simple-at-in-2.ensures d s.p rising h s.number (only_number _ _ _ d _ s.p h s.is refl) (simple_as _ _ _ _ _ d _ s.is (simple_store _ _ _ _ s.p s.r s.a s.e))
+    c.simple_at-in-2.ensures d s.p rising h s.number (only_number _ _ _ d _ s.p h s.is refl) (simple_as _ _ _ _ _ d _ s.is (simple_store _ _ _ _ s.p s.r s.a s.e))
 
-pub pass-at-returns-in-3 : goal.pass-at-returns-in-3
+pub pass_at-returns-in-3 : goal.pass_at-returns-in-3
 unfolding stmt_numbers
-pass-at-returns-in-3 t c d rising h =
+pass_at-returns-in-3 t c d rising h =
     let s = input_at _ _ d h.stands c.in-3.is in
-    c.simple-at-in-3.ensures d s.p rising h s.number (only_number _ _ _ d _ s.p h s.is refl) (simple_as _ _ _ _ _ d _ s.is (simple_input _ _ _ _ s.p s.v s.a s.b))
+    c.simple_at-in-3.ensures d s.p rising h s.number (only_number _ _ _ d _ s.p h s.is refl) (simple_as _ _ _ _ _ d _ s.is (simple_input _ _ _ _ s.p s.v s.a s.b))
 
-pub pass-at-returns-in-4 : goal.pass-at-returns-in-4
+pub pass_at-returns-in-4 : goal.pass_at-returns-in-4
 unfolding stmt_numbers
-pass-at-returns-in-4 t c d rising h =
+pass_at-returns-in-4 t c d rising h =
     let s = check_at _ _ d h.stands c.in-4.is in
-    c.simple-at-in-4.ensures d s.p rising h s.number (only_number _ _ _ d _ s.p h s.is refl) (simple_as _ _ _ _ _ d _ s.is (simple_check _ _ _ _ s.p s.t))
+    c.simple_at-in-4.ensures d s.p rising h s.number (only_number _ _ _ d _ s.p h s.is refl) (simple_as _ _ _ _ _ d _ s.is (simple_check _ _ _ _ s.p s.t))
 
-pub pass-at-returns-in-5 : goal.pass-at-returns-in-5
-pass-at-returns-in-5 t c d rising h =
+pub pass_at-returns-in-5 : goal.pass_at-returns-in-5
+pass_at-returns-in-5 t c d rising h =
     let s = seq_at _ _ d h.stands c.in-5.is in
-    let mid = c.pass-at-mid.ensures s.a rising (seq_first _ _ _ d h s) in
-    let end = c.pass-at.ensures s.b rising (ready_at _ _ _ _ s.b (sym mid.end) (seq_second _ _ _ d h s)) in
+    let mid = c.pass_at-mid.ensures s.a rising (seq_first _ _ _ d h s) in
+    let end = c.pass_at.ensures s.b rising (ready_at _ _ _ _ s.b (sym mid.end) (seq_second _ _ _ d h s)) in
     watched_as _ _ _ _ _ _ _ _ _ d _ _ s.is (watched_seq _ _ _ _ _ _ s.a s.b _ _ _ _ _ _ _ _ mid (watched_at _ _ _ _ _ _ _ _ _ _ _ s.b _ (omega (arith, mid.end, s.long)) refl end))
 
-pub pass-at-returns-in-6 : goal.pass-at-returns-in-6
-pass-at-returns-in-6 t c d rising h =
+pub pass_at-returns-in-6 : goal.pass_at-returns-in-6
+pass_at-returns-in-6 t c d rising h =
     let s = branch_at _ _ d h.stands c.in-6.is in
-    let p-is = number_is _ _ s.p _ s.number (branch_number _ _ _ d h s) c.word-at.ensures in
-    let w = c.branch-at.ensures s.t s.a s.b rising (branch_condition _ _ _ d h s) (branch_first _ _ _ d h s) (branch_second _ _ _ d h s) in
+    let p-is = number_is _ _ s.p _ s.number (branch_number _ _ _ d h s) c.word_at.ensures in
+    let w = c.branch_at.ensures s.t s.a s.b rising (branch_condition _ _ _ d h s) (branch_first _ _ _ d h s) (branch_second _ _ _ d h s) in
     watched_as _ _ _ _ _ _ _ _ _ d _ _ (s.is ∙ ap (λ (p : ℕ). branch p s.t s.a s.b) (sym p-is)) (watched_at _ _ _ _ _ _ _ _ _ _ _ _ _ (omega (arith, s.long)) refl w)
 
-pub pass-at-returns-in-7 : goal.pass-at-returns-in-7
-pass-at-returns-in-7 t c d rising h =
+pub pass_at-returns-in-7 : goal.pass_at-returns-in-7
+pass_at-returns-in-7 t c d rising h =
     let s = loop_at _ _ d h.stands c.in-7.is in
-    let p-is = number_is _ _ s.p _ s.number (loop_number _ _ _ d h s) c.word-at-in-7.ensures in
-    let w = c.loop-at.ensures s.t s.a rising (loop_condition _ _ _ d h s) (loop_body _ _ _ d h s) in
+    let p-is = number_is _ _ s.p _ s.number (loop_number _ _ _ d h s) c.word_at-in-7.ensures in
+    let w = c.loop_at.ensures s.t s.a rising (loop_condition _ _ _ d h s) (loop_body _ _ _ d h s) in
     watched_as _ _ _ _ _ _ _ _ _ d _ _ (s.is ∙ ap (λ (p : ℕ). loop p s.t s.a) (sym p-is)) (watched_at _ _ _ _ _ _ _ _ _ _ _ _ _ (omega (arith, s.long)) refl w)
 
-pub pass-at-returns-in-default : goal.pass-at-returns-in-default
-pass-at-returns-in-default t c d rising h = absurd (omega (arith, stmt_below _ _ d h.stands))
+pub pass_at-returns-in_default : goal.pass_at-returns-in_default
+pass_at-returns-in_default t c d rising h = absurd (omega (arith, stmt_below _ _ d h.stands))

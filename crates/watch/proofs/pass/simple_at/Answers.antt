@@ -7,8 +7,8 @@ use Rattle.watch.proofs.pass.simple_at.Goals as goal
 
 pub returns : goal.returns
 returns c d p rising ready number low simple =
-    let w = c.analyse-at.ensures d rising ready in
-    let p-is = number_is _ _ p _ number low c.word-at.ensures in
+    let w = c.analyse_at.ensures d rising ready in
+    let p-is = number_is _ _ p _ number low c.word_at.ensures in
     record {
       out = w.out;
       seen = c.note.ensures ∙ ap (λ (q : ℕ). noted c.args.watched q (as_abstract c.args.state.now) (as_abstract c.args.seen.now)) p-is ∙ sym (simple _ _);
