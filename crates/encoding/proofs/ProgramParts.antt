@@ -1,5 +1,5 @@
 -- A program that stands at a position is taken apart: its variables, its arrays' lengths, its body. Rests on Standing and Valid.
-use Rattle.std.proofs.Common.{◌≡◌, ℕ, zero, suc, ◌+◌, ◌*◌, ◌<◌, List, [], ◌∷◌, ◌++◌, length, get_or, drop, sym, refl, ap, ◌∙◌, append-nil, arith, length-append}
+use Rattle.std.proofs.Common.{◌≡◌, ℕ, zero, suc, ◌+◌, ◌*◌, ◌<◌, List, [], ◌∷◌, ◌++◌, length, get_or, drop, sym, ap, ◌∙◌, append-nil, arith, length-append}
 use lib.Seq.{drop-length}
 use Rattle.program.specs.Basics.{eight, flat_map}
 use Rattle.program.specs.Syntax.{Program}

@@ -3,7 +3,7 @@ use Rattle.std.proofs.Common.{◌≡◌, ℕ, Bool, ◌||◌, eqb, List, [], ◌
 use mathlib.Core.Bool.{or_assoc}
 use Rattle.program.specs.Basics.{any}
 use Rattle.interval.specs.Interval.{Interval as PlainInterval}
-use Rattle.interval.specs.Arithmetic.{EvalResult as PlainResult, eval_result, interval_op, with_faults, if_one, if_two, element_of, combined, element_by}
+use Rattle.interval.specs.Arithmetic.{EvalResult as PlainResult, interval_op, with_faults, if_one, if_two, element_of, combined, element_by}
 use Rattle.interval.specs.Of.{as_interval, Faulty, faults_or, after_faults, Says}
 use Rattle.interval.specs.declared.types.Interval.{Interval}
 use Rattle.interval.specs.declared.types.Faults.{Faults}

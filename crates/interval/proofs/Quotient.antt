@@ -1,5 +1,5 @@
 -- Quotients are monotone: more divided by less is more. Rests on the laws of division.
-use Rattle.std.proofs.Common.{ℕ, ◌*◌, ◌/◌, ◌<◌, ◌≤◌, ◌↔◌, mul-le-mul_left, le-div_iff_mul-le, div-mul-le_self, arith}
+use Rattle.std.proofs.Common.{ℕ, ◌*◌, ◌/◌, ◌<◌, ◌≤◌, mul-le-mul_left, le-div_iff_mul-le, div-mul-le_self, arith}
 
 pub quotient_monotone : (a b c d : ℕ) → a ≤ b → 0 < c → c ≤ d → a / d ≤ b / c
 quotient_monotone a b c d ab z cd =

@@ -1,5 +1,5 @@
 -- What the code's analysis leaves is what a program's memory holds: states of 64 variables and 16 arrays, thresholds in any order, a table of marks.
-use Rattle.std.proofs.Common.{◌≡◌, ℕ, zero, suc, ◌+◌, ◌-◌, ◌<◌, ◌≤◌, Bool, true, false, cond, List, [], ◌∷◌, ◌++◌, length, get_or, replicate, sym, refl, ap, ◌∙◌, add-zero, add-suc, arith}
+use Rattle.std.proofs.Common.{◌≡◌, ℕ, zero, suc, ◌+◌, ◌-◌, ◌<◌, ◌≤◌, Bool, true, false, cond, List, [], ◌∷◌, ◌++◌, length, get_or, replicate, sym, refl, ap, ◌∙◌, add-zero, arith}
 use lib.ListN.{length-replicate}
 use Rattle.std.proofs.lemmas.List.{replicate-append-replicate}
 use Rattle.program.specs.Basics.{map}
@@ -8,8 +8,8 @@ use Rattle.program.specs.Semantics.{truth}
 use Rattle.program.specs.Validity.{valid_program}
 use Rattle.encoding.proofs.Valid.{program_parts}
 use Rattle.interval.specs.Interval.{Interval, interval, threshold_above, threshold_below}
-use Rattle.analysis.specs.Reach.{unreached, reached, Alarm, Analysis, analysis}
-use Rattle.analysis.specs.AbstractState.{Env, Abstract}
+use Rattle.analysis.specs.Reach.{unreached, reached, Alarm, analysis}
+use Rattle.analysis.specs.AbstractState.{Abstract}
 use Rattle.analysis.specs.Analyser.{analyse}
 use Rattle.analysis.specs.Thresholds.{thresholds}
 use Rattle.analysis.specs.Whole.{round_limit, initial_abstract, analyse_program}

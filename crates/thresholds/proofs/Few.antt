@@ -1,5 +1,5 @@
 -- Each threshold costs three bytes of the encoding, so a valid program has at most 11,000. Rests on the lengths of encodings.
-use Rattle.std.proofs.Common.{◌≡◌, ℕ, ◌+◌, ◌-◌, ◌*◌, ◌≤◌, Bool, true, ltb, List, [], ◌∷◌, ◌++◌, length, arith, length-append}
+use Rattle.std.proofs.Common.{◌≡◌, ℕ, ◌-◌, ◌*◌, ◌≤◌, Bool, true, ltb, List, [], ◌∷◌, ◌++◌, length, arith, length-append}
 use Rattle.program.specs.Basics.{filter, flat_map, limit}
 use Rattle.program.specs.Syntax.{Expr, num, var, bin, element, Test, less, equal, not_test, and_test, or_test, Stmt, skip, assign, store, input, check, seq, branch, loop, Program}
 use Rattle.program.specs.Encoding.{encode_expr, encode_test, encode_stmt, encode_program}

@@ -1,11 +1,11 @@
 -- The parts of a statement that is ready are ready where they stand.
-use Rattle.std.proofs.Common.{◌≡◌, ℕ, ◌+◌, ◌-◌, ◌<◌, ◌≤◌, true, ◌&&◌, leb, List, [], ◌∷◌, ◌++◌, length, refl, ap, subst, arith}
+use Rattle.std.proofs.Common.{◌≡◌, ℕ, ◌+◌, ◌-◌, true, ◌&&◌, leb, List, [], ◌∷◌, ◌++◌, length, subst, arith}
 use Rattle.std.specs.List.{AllByRecursion as All}
 use Rattle.std.proofs.lemmas.Bool.{and_parts}
-use Rattle.program.specs.Syntax.{Expr, Test, Stmt, skip, assign, store, input, check, seq, branch, loop}
+use Rattle.program.specs.Syntax.{Stmt, assign, store, check, seq, branch, loop}
 use Rattle.program.specs.Encoding.{encode_expr, encode_test, encode_stmt}
 use Rattle.program.specs.Validity.{valid_expr, valid_test, test_size, valid_condition, valid_stmt, stmt_numbers}
-use Rattle.encoding.specs.Parts.{AssignAt, StoreAt, InputAt, CheckAt, SeqAt, BranchAt, LoopAt}
+use Rattle.encoding.specs.Parts.{AssignAt, StoreAt, CheckAt, SeqAt, BranchAt, LoopAt}
 use Rattle.evaluate.specs.Ready.{ExprReady, TestReady}
 use Rattle.walker.specs.Ready.{Low, StmtReady}
 

@@ -3,7 +3,7 @@ use Rattle.std.proofs.Common.{◌≡◌, ℕ, ◌+◌, ◌<◌, ◌≤◌, true,
 use Rattle.std.proofs.lemmas.Bool.{and_parts}
 use Rattle.std.proofs.lemmas.Bool.Decides.{nat_tests}
 use Rattle.program.specs.Basics.{eight, larger, limit}
-use Rattle.program.specs.Syntax.{Expr, Test, Stmt, store}
+use Rattle.program.specs.Syntax.{Expr, Test, Stmt}
 use Rattle.program.specs.Encoding.{encode_expr, encode_test, encode_stmt}
 use Rattle.program.specs.Validity.{valid_stmt, stmt_numbers}
 use Rattle.encoding.specs.Standing.{Stands, word_at}

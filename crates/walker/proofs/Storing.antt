@@ -1,13 +1,12 @@
 -- A store's index and value put together: each case of the two results.
-use Rattle.std.proofs.Common.{◌≡◌, ℕ, ◌<◌, ◌≤◌, Bool, true, false, cond, ltb, List, [], ◌∷◌, ◌++◌, sym, refl, ap, ◌∙◌, subst, append-nil, arith, le-ltb, lt-ltb}
-use Rattle.program.specs.Basics.{filter, flat_map}
+use Rattle.std.proofs.Common.{◌≡◌, ℕ, ◌<◌, ◌≤◌, Bool, false, cond, List, [], ◌∷◌, ◌++◌, refl, append-nil, arith, le-ltb, lt-ltb}
+use Rattle.program.specs.Basics.{flat_map}
 use Rattle.interval.specs.Interval.{Interval as PlainInterval}
-use Rattle.interval.specs.Arithmetic.{EvalResult as PlainResult, eval_result}
+use Rattle.interval.specs.Arithmetic.{EvalResult as PlainResult}
 use Rattle.interval.specs.declared.types.Interval.{Interval}
 use Rattle.interval.specs.declared.types.Faults.{Faults}
-use Rattle.interval.specs.declared.types.EvalResult.{EvalResult}
 use Rattle.interval.specs.declared.types.EvalResult.TheVariants.{Value, Never}
-use Rattle.interval.specs.Of.{as_interval, Faulty, faults_or, Says}
+use Rattle.interval.specs.Of.{Faulty, faults_or, Says}
 use Rattle.interval.proofs.Combining.{faulty_or}
 use Rattle.walker.specs.Store.{if_index, store_result}
 

@@ -1,5 +1,5 @@
 -- Each arm is a watched pass through its parts, by what stands at the position.
-use Rattle.std.proofs.Common.{◌≡◌, ℕ, ◌+◌, sym, refl, ap, ◌∙◌, subst, arith}
+use Rattle.std.proofs.Common.{ℕ, sym, refl, ap, ◌∙◌, arith}
 use Rattle.program.specs.Syntax.{branch, loop}
 use Rattle.program.specs.Validity.{stmt_numbers}
 use Rattle.encoding.proofs.Lengths.{stmt_long}
