@@ -1,5 +1,5 @@
 -- What is printed of each kind of expression is what the definitions say.
-use Rattle.std.proofs.Common.{◌≡◌, ℕ, ◌+◌, ◌<◌, Bool, true, false, List, ◌++◌, get_or, codes, decimal, sym, ap, ◌∙◌, arith}
+use Rattle.std.proofs.Common.{◌≡◌, ℕ, ◌+◌, Bool, true, false, List, ◌++◌, get_or, codes, decimal, sym, ap, ◌∙◌}
 use Rattle.program.specs.Syntax.{Expr}
 use Rattle.encoding.specs.Parts.{NumberAt, VariableAt, BinaryAt, ElementAt}
 use Rattle.printer.specs.Text.{variable_word, array_word, sign_text, opening, closing, text_expr}

@@ -1,10 +1,10 @@
 -- What is printed of a command that loads a program is the program's text. Rests on encoding's Valid and on encodings being different.
-use Rattle.std.proofs.Common.{◌≡◌, ℕ, true, List, [], ◌∷◌, ◌++◌, length, take, drop, replicate, codes, sym, refl, ap, ◌∙◌, arith}
+use Rattle.std.proofs.Common.{◌≡◌, ℕ, true, List, [], ◌∷◌, ◌++◌, length, take, drop, codes, sym, refl, ap, ◌∙◌, arith}
 use lib.Seq.{take-append_seam}
 use Rattle.program.specs.Syntax.{Program}
 use Rattle.program.specs.Encoding.{encode_program}
 use Rattle.program.specs.Validity.{valid_program}
-use Rattle.program.specs.Command.{Command, load, encode, valid}
+use Rattle.program.specs.Command.{load, encode, valid}
 use Rattle.encoding.proofs.Valid.{program_parts}
 use Rattle.encoding.proofs.Hear.{encoded_once}
 use Rattle.encoding.specs.Statements.{EncodedOnce}

@@ -5,7 +5,7 @@ use Rattle.printer.proofs.print_loaded.Goals as goal
 
 pub returns : goal.returns
 returns c l =
-    let s = c.in-ok-print-stmt.ensures _ (body_ready _ _ l) in
+    let s = c.in_ok-print_stmt.ensures _ (body_ready _ _ l) in
     let all : c.args.header.now.arrays - 0 ≡ c.args.header.now.arrays = omega arith in
     loaded_text _ _ l _ _ _ c.new-out.ensures.bytes (ap (λ (k : ℕ). take k c.args.header.now.lengths) all)
-    (also (also (also c.in-ok-print-variables.ensures c.in-ok-print-arrays.ensures) s.text) c.in-ok-put.ensures)
+    (also (also (also c.in_ok-print_variables.ensures c.in_ok-print_arrays.ensures) s.text) c.in_ok-put.ensures)

@@ -1,8 +1,8 @@
 use Rattle.std.proofs.Common.{◌+◌, ◌*◌}
 use Rattle.printer.proofs.condition.+print_test_print_tests.Given as goal
 
-abbrev pub decreases-print-test : goal.decreases-print-test
-decreases-print-test l = 2 * l.left
+abbrev pub decreases-print_test : goal.decreases-print_test
+decreases-print_test l = 2 * l.left
 
-abbrev pub decreases-print-tests : goal.decreases-print-tests
-decreases-print-tests l = 2 * l.left + 1
+abbrev pub decreases-print_tests : goal.decreases-print_tests
+decreases-print_tests l = 2 * l.left + 1

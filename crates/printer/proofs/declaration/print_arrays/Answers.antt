@@ -10,10 +10,10 @@ loop-i-init c = none_added _
 
 pub loop-i-preserved : goal.loop-i-preserved
 loop-i-preserved c =
-    same_pieces (also (also (also (also (also c.loop-i.invariant c.in-ok-put.ensures) c.in-ok-put-array.ensures) c.in-ok-put-2.ensures) c.in-ok-put-number.ensures) c.in-ok-put-3.ensures)
+    same_pieces (also (also (also (also (also c.loop-i.invariant c.in_ok-put.ensures) c.in_ok-put_array.ensures) c.in_ok-put-2.ensures) c.in_ok-put_number.ensures) c.in_ok-put-3.ensures)
     (array_more _ c.loop-i.i _ _ c.separator.ensures refl)
 
 pub returns : goal.returns
 returns c =
     let all : c.loop-i.i ≡ length c.args.lengths.now = omega arith in
-    last_also _ _ _ _ _ _ (same_pieces c.loop-i.invariant (ap (declared_arrays c.args.lengths.now) all)) c.end-line.ensures
+    last_also _ _ _ _ _ _ (same_pieces c.loop-i.invariant (ap (declared_arrays c.args.lengths.now) all)) c.end_line.ensures

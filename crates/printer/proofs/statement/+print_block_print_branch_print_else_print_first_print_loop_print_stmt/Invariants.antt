@@ -1,20 +1,20 @@
 use Rattle.std.proofs.Common.{◌+◌, ◌*◌}
 use Rattle.printer.proofs.statement.+print_block_print_branch_print_else_print_first_print_loop_print_stmt.Given as goal
 
-abbrev pub decreases-print-stmt : goal.decreases-print-stmt
-decreases-print-stmt l = 4 * l.left
+abbrev pub decreases-print_stmt : goal.decreases-print_stmt
+decreases-print_stmt l = 4 * l.left
 
-abbrev pub decreases-print-block : goal.decreases-print-block
-decreases-print-block l = 4 * l.left + 1
+abbrev pub decreases-print_block : goal.decreases-print_block
+decreases-print_block l = 4 * l.left + 1
 
-abbrev pub decreases-print-first : goal.decreases-print-first
-decreases-print-first l = 4 * l.left + 2
+abbrev pub decreases-print_first : goal.decreases-print_first
+decreases-print_first l = 4 * l.left + 2
 
-abbrev pub decreases-print-else : goal.decreases-print-else
-decreases-print-else l = 4 * l.left + 2
+abbrev pub decreases-print_else : goal.decreases-print_else
+decreases-print_else l = 4 * l.left + 2
 
-abbrev pub decreases-print-loop : goal.decreases-print-loop
-decreases-print-loop l = 4 * l.left + 2
+abbrev pub decreases-print_loop : goal.decreases-print_loop
+decreases-print_loop l = 4 * l.left + 2
 
-abbrev pub decreases-print-branch : goal.decreases-print-branch
-decreases-print-branch l = 4 * l.left + 3
+abbrev pub decreases-print_branch : goal.decreases-print_branch
+decreases-print_branch l = 4 * l.left + 3

@@ -9,11 +9,11 @@ use Rattle.printer.proofs.statement.print_assign.Goals as goal
 
 pub returns : goal.returns
 returns c =
-    then_made _ (ExprPrinted _ _ _ _ _ _) (AssignPrinted _ _ _ _ _ _) c.print-expr.ensures (λ last q p e ready.
-    let at : c.saturating-add.result ≡ c.args.pos + 1 = omega (arith, expr_within _ _ e ready.placed.stands, expr_long e, c.saturating-add.ensures) in
+    then_made _ (ExprPrinted _ _ _ _ _ _) (AssignPrinted _ _ _ _ _ _) c.print_expr.ensures (λ last q p e ready.
+    let at : c.saturating_add.result ≡ c.args.pos + 1 = omega (arith, expr_within _ _ e ready.placed.stands, expr_long e, c.saturating_add.ensures) in
     let v = q e (expr_moved _ _ _ _ ready _ at) in
     record {
       end = omega (arith, v.end, at);
-      text = same_pieces (also (also (also c.in-ok-indent.ensures c.in-ok-put-variable.ensures) c.in-ok-put.ensures) v.text)
-          (assign_text _ p e c.byte-at.result _ c.byte-at.ensures);
+      text = same_pieces (also (also (also c.in_ok-indent.ensures c.in_ok-put_variable.ensures) c.in_ok-put.ensures) v.text)
+          (assign_text _ p e c.byte_at.result _ c.byte_at.ensures);
     })

@@ -9,12 +9,12 @@ use Rattle.printer.proofs.statement.print_store.Goals as goal
 
 pub returns : goal.returns
 returns c =
-    then_made _ (ExprPrinted _ _ _ _ _ _) (StorePrinted _ _ _ _ _ _) c.print-expr-2.ensures (λ last q p a e ready other.
-    let at : c.saturating-add.result ≡ c.args.pos + 1 = omega (arith, expr_within _ _ a ready.placed.stands, expr_long a, c.saturating-add.ensures) in
-    let i = c.in-ok-value.ensures a (expr_moved _ _ _ _ ready _ at) in
+    then_made _ (ExprPrinted _ _ _ _ _ _) (StorePrinted _ _ _ _ _ _) c.print_expr-2.ensures (λ last q p a e ready other.
+    let at : c.saturating_add.result ≡ c.args.pos + 1 = omega (arith, expr_within _ _ a ready.placed.stands, expr_long a, c.saturating_add.ensures) in
+    let i = c.in_ok-value.ensures a (expr_moved _ _ _ _ ready _ at) in
     let v = q e (expr_moved _ _ _ _ other _ (omega (arith, i.end, at))) in
     record {
       end = omega (arith, v.end, i.end, at);
-      text = same_pieces (also (also (also (also (also c.in-ok-indent.ensures c.in-ok-put-array.ensures) c.in-ok-put.ensures) i.text) c.in-ok-put-2.ensures) v.text)
-          (store_text _ p a e c.byte-at.result _ c.byte-at.ensures);
+      text = same_pieces (also (also (also (also (also c.in_ok-indent.ensures c.in_ok-put_array.ensures) c.in_ok-put.ensures) i.text) c.in_ok-put-2.ensures) v.text)
+          (store_text _ p a e c.byte_at.result _ c.byte_at.ensures);
     })

@@ -9,7 +9,7 @@ loop-init c = none_added _
 
 pub loop-preserved : goal.loop-preserved
 unfolding indent
-loop-preserved c = same_pieces (also c.loop.invariant c.in-ok-put.ensures) (sym (ap indent (add-one c.loop.counter)))
+loop-preserved c = same_pieces (also c.loop.invariant c.in_ok-put.ensures) (sym (ap indent (add-one c.loop.counter)))
 
 pub returns : goal.returns
 returns c = same_pieces c.loop.invariant (ap indent (omega arith))
