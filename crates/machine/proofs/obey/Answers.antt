@@ -5,8 +5,8 @@ use Rattle.machine.proofs.obey.Goals as goal
 pub load-requires : goal.load-requires
 load-requires c = (c.requires.0, loads_bounded c.args.text.now c.in-Load.header c.in-Load.ensures)
 
-pub show-end-requires : goal.show-end-requires
-show-end-requires c = (c.requires.0, (variable_small c.args.text.now c.in-AtEnd.x c.in-AtEnd.ensures, c.requires.1))
+pub show_end-requires : goal.show_end-requires
+show_end-requires c = (c.requires.0, (variable_small c.args.text.now c.in-AtEnd.x c.in-AtEnd.ensures, c.requires.1))
 
 pub returns-in-Load : goal.returns-in-Load
 returns-in-Load c =
@@ -15,13 +15,13 @@ returns-in-Load c =
 
 pub returns-in-Alarms : goal.returns-in-Alarms
 returns-in-Alarms c =
-    obeyed_alarms c.args.memory.now c.args.text.now c.args.out.now c.show-from.new.memory c.show-from.new.out c.show-from.result
-    c.in-Alarms.ensures c.show-from.ensures
+    obeyed_alarms c.args.memory.now c.args.text.now c.args.out.now c.show_from.new.memory c.show_from.new.out c.show_from.result
+    c.in-Alarms.ensures c.show_from.ensures
 
 pub returns-in-AtEnd : goal.returns-in-AtEnd
 returns-in-AtEnd c =
-    obeyed_end c.args.memory.now c.args.text.now c.args.out.now c.show-end.new.memory c.show-end.new.out c.in-AtEnd.x c.show-end.result
-    c.in-AtEnd.ensures c.show-end.ensures
+    obeyed_end c.args.memory.now c.args.text.now c.args.out.now c.show_end.new.memory c.show_end.new.out c.in-AtEnd.x c.show_end.result
+    c.in-AtEnd.ensures c.show_end.ensures
 
 pub returns-in-Refused : goal.returns-in-Refused
 returns-in-Refused c = obeyed_nothing c.args.memory.now c.args.text.now c.args.out.now c.in-Refused.ensures
