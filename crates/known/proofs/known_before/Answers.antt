@@ -3,13 +3,13 @@ use Rattle.machine.proofs.Analysing.{loads_bounded}
 use Rattle.known.proofs.Finding.{alarms_load_none, end_loads_none}
 use Rattle.known.proofs.known_before.Goals as goal
 
-pub known-in-requires : goal.known-in-requires
-known-in-requires c = loads_bounded c.args.text.now c.in-Load.header c.in-Load.ensures
+pub known_in-requires : goal.known_in-requires
+known_in-requires c = loads_bounded c.args.text.now c.in-Load.header c.in-Load.ensures
 
 pub returns-in-Load : goal.returns-in-Load
 returns-in-Load c =
     let l = c.in-Load.ensures in
-    (l.program, (l.encoded, c.known-in.ensures l))
+    (l.program, (l.encoded, c.known_in.ensures l))
 
 pub returns-in-Alarms : goal.returns-in-Alarms
 returns-in-Alarms c p loads = alarms_load_none c.args.text.now p c.in-Alarms.ensures loads

@@ -6,6 +6,6 @@ use Rattle.known.proofs.known_in.Goals as goal
 
 pub returns : goal.returns
 returns c l =
-    known_found c.args.text.now c.args.header.now l _ _ c.collect-count.new.out _ c.collect-count.result c.round-limit-rounds.result c.args.stmt _ refl
+    known_found c.args.text.now c.args.header.now l _ _ c.collect-count.new.out _ c.collect-count.result c.round_limit-rounds.result c.args.stmt _ refl
     (length-replicate {A = ℕ} 11000 0) (ap (λ (m : ℕ). take m c.collect-count.new.out) (sub-zero c.collect-count.result))
-    c.round-limit-rounds.ensures c.collect-count.ensures.sorted c.watch-body.ensures
+    c.round_limit-rounds.ensures c.collect-count.ensures.sorted c.watch_body.ensures

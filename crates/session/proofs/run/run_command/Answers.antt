@@ -10,13 +10,13 @@ loop-n-init c =
     let P : List Row → Type 0 = SoFar c.args.memory.now c.args.text.now c.args.memory.now 0 in
     (refl, subst P (sym c.new-rows.ensures.items) (at_first c.args.memory.now c.args.text.now))
 
-pub read-row-requires : goal.read-row-requires
-read-row-requires c = record { room = omega arith; size = (row_told (turn c.step.new.memory c.step.new.out c.loop-n.invariant.1 c.loop-n.invariant.0 (omega arith) c.in-Shows.ensures)).size }
+pub read_row-requires : goal.read_row-requires
+read_row-requires c = record { room = omega arith; size = (row_told (turn c.step.new.memory c.step.new.out c.loop-n.invariant.1 c.loop-n.invariant.0 (omega arith) c.in-Shows.ensures)).size }
 
-pub returns-in-err-push : goal.returns-in-err-push
-returns-in-err-push c =
+pub returns-in_err-push-in-Shows : goal.returns-in_err-push-in-Shows
+returns-in_err-push-in-Shows c =
     let t = row_told (turn c.step.new.memory c.step.new.out c.loop-n.invariant.1 c.loop-n.invariant.0 (omega arith) c.in-Shows.ensures) in
-    let p = err_from_is_err_and c.from-residual.result c.from-residual.ensures.1 in
+    let p = err_from_is_err_and c.from_residual.result c.from_residual.ensures.1 in
     rw p.1 (record { ended = tt; kept = λ q st. t.more.kept q (c.loop-n.invariant.1.kept q st) })
 
 pub returns-in-Done : goal.returns-in-Done
@@ -39,6 +39,6 @@ loop-n-preserved c =
     let t = row_told (turn c.step.new.memory c.step.new.out c.loop-n.invariant.1 c.loop-n.invariant.0 (omega arith) c.in-Shows.ensures) in (
       omega arith,
       row_more c.args.memory.now c.args.text.now c.loop-n.memory c.step.new.memory c.loop-n.kind c.in-Shows.n c.step.new.out
-          (vec_items c.loop-n.rows) (vec_items c.push.new.self) c.read-row.result c.loop-n.invariant.1 t c.read-row.ensures.bytes c.read-row.ensures.words
-          c.in-ok-push.ensures.items,
+          (vec_items c.loop-n.rows) (vec_items c.push.new.self) c.read_row.result c.loop-n.invariant.1 t c.read_row.ensures.bytes c.read_row.ensures.words
+          c.in_ok-push-in-Shows.ensures.items,
     )

@@ -10,8 +10,8 @@ zeros_stand : (m : List ℕ) → m ≡ replicate 22083 0 → StandsFor m empty_p
 unfolding zeros StartStands
 zeros_stand m e = subst (λ (w : List ℕ). StandsFor w empty_program) (sym e) start_stands
 
-pub invariant-of-result : goal.invariant-of-result
-invariant-of-result c = (∣ (empty_program, zeros_stand _ c.in-ok-memory.ensures) ∣₁, tt)
+pub invariant_of-result : goal.invariant_of-result
+invariant_of-result c = record { stands = ∣ (empty_program, zeros_stand _ c.in_ok-memory.ensures) ∣₁ }
 
 pub returns : goal.returns
-returns c = zeros_stand _ c.in-ok-memory.ensures
+returns c = zeros_stand _ c.in_ok-memory.ensures

@@ -29,23 +29,23 @@ still : (r : Result Answer AllocError) (m text m₁ : List ℕ) → RunSo r m te
 still (Ok a) m text m₁ h p st = stands_still text (vec_items a.rows) a.end m₁ p (answered m text (vec_items a.rows) a.end m₁ p h.0 st)
 still (Err e) m text m₁ h p st = (p, h.1 p st)
 
-pub run-command-requires : goal.run-command-requires
-run-command-requires c = ap length c.as-mut-slice.ensures.value ∙ some_length _ c.args.self.now.stands
+pub run_command-requires : goal.run_command-requires
+run_command-requires c = ap length c.as_mut_slice.ensures.value ∙ some_length _ c.args.self.now.stands
 
 -- the run, in the words that the session held and holds
-pub invariant-of-self : goal.invariant-of-self
-invariant-of-self c =
-    let e = with_items_is c.args.self.now.memory c.run-command.new.memory (omega arith) in
-    let h = run_moved c.run-command.result _ _ _ _ _ c.as-mut-slice.ensures.value (sym e) (c.run-command.ensures.ended, c.run-command.ensures.kept) in
-    (∥∥₁_map c.args.self.now.stands (λ (p, st). still c.run-command.result _ _ _ h p st), tt)
+pub invariant_of-self : goal.invariant_of-self
+invariant_of-self c =
+    let e = with_items_is c.args.self.now.memory c.run_command.new.memory (omega arith) in
+    let h = run_moved c.run_command.result _ _ _ _ _ c.as_mut_slice.ensures.value (sym e) (c.run_command.ensures.ended, c.run_command.ensures.kept) in
+    record { stands = ∥∥₁_map c.args.self.now.stands (λ (p, st). still c.run_command.result _ _ _ h p st) }
 
 pub returns : goal.returns
 returns c =
-    let e = with_items_is c.args.self.now.memory c.run-command.new.memory (omega arith) in
-    let h = run_moved c.run-command.result _ _ _ _ _ c.as-mut-slice.ensures.value (sym e) (c.run-command.ensures.ended, c.run-command.ensures.kept) in
+    let e = with_items_is c.args.self.now.memory c.run_command.new.memory (omega arith) in
+    let h = run_moved c.run_command.result _ _ _ _ _ c.as_mut_slice.ensures.value (sym e) (c.run_command.ensures.ended, c.run_command.ensures.kept) in
     record {
-      answers = IfOk-weaker c.run-command.result _ _ (λ a f p st. answered _ _ _ _ _ p f st) h.0;
-      faults = IfOk-weaker c.run-command.result _ _ (λ a f p st. faults_shown _ _ _ _ _ p f st) h.0;
-      ends = IfOk-weaker c.run-command.result _ _ (λ a f p st. ends_shown _ _ _ _ _ p f st) h.0;
+      answers = IfOk-weaker c.run_command.result _ _ (λ a f p st. answered _ _ _ _ _ p f st) h.0;
+      faults = IfOk-weaker c.run_command.result _ _ (λ a f p st. faults_shown _ _ _ _ _ p f st) h.0;
+      ends = IfOk-weaker c.run_command.result _ _ (λ a f p st. ends_shown _ _ _ _ _ p f st) h.0;
       kept = h.1;
     }
