@@ -3,9 +3,9 @@ use Rattle.std.proofs.Common.{◌≡◌, ℕ, zero, suc, ◌+◌, ◌-◌, ◌<�
 use Rattle.std.specs.List.{AllByRecursion}
 use Rattle.std.proofs.lemmas.List.{drop_all}
 use Rattle.lexer.specs.declared.types.Token.{Token}
-use Rattle.lexer.specs.Lexing.{Piece, First, strange, large, token, first, Lexing, complete, character, too_large, then_token, past_blanks, lex_from, lexing}
+use Rattle.lexer.specs.Lexing.{Piece, strange, large, token, first, Lexing, complete, character, too_large, then_token, past_blanks, lex_from, lexing}
 use Rattle.lexer.specs.Tokens.{texts, spell, Different, Numbered, Bounded, Ascending, Tokens, Takes}
-use Rattle.lexer.proofs.Numbering.{Taken, taken}
+use Rattle.lexer.proofs.Numbering.{taken}
 
 -- tokens before others
 abbrev prefixed : List ℕ → List Piece → Lexing → Lexing

@@ -4,7 +4,7 @@ use borrow.Author.Tests.{clash}
 use Rattle.program.specs.Basics.{all}
 use Rattle.program.specs.Syntax.{Program}
 use Rattle.program.specs.Encoding.{encode_program}
-use Rattle.program.specs.Validity.{valid_program, valid_stmt, consecutive, stmt_numbers, nesting, loop_nesting}
+use Rattle.program.specs.Validity.{valid_stmt, consecutive, stmt_numbers, nesting, loop_nesting}
 use Rattle.program.specs.Command.{load, encode, valid}
 use Rattle.reader.specs.declared.load.Header.{Header}
 use Rattle.scanner.specs.declared.scan.StmtEnd.{StmtEnd}

@@ -1,4 +1,4 @@
-use Rattle.std.proofs.Common.{◌≡◌, ℕ, ◌+◌, ◌-◌, ◌<◌, Bool, List, length, get_or, drop, Some, None, Option, sym, refl, ap, ◌∙◌, subst, arith}
+use Rattle.std.proofs.Common.{◌≡◌, ℕ, ◌+◌, ◌-◌, List, get_or, drop, sym, ap, ◌∙◌, subst, arith}
 use Rattle.lexer.specs.declared.types.Key.{Key}
 use Rattle.lexer.specs.Keys.{symbol}
 use Rattle.lexer.specs.Lexing.{First, letter, digit, run, key, token, symbol_or_strange, first_number}

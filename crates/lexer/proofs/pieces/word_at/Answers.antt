@@ -1,4 +1,4 @@
-use Rattle.std.proofs.Common.{◌≡◌, ℕ, ◌+◌, ◌≤◌, List, length, drop, Some, None, IsUtf8, sym, refl, subst, arith}
+use Rattle.std.proofs.Common.{◌≡◌, ℕ, ◌+◌, List, drop, Some, None, IsUtf8, sym, subst, arith}
 use Rattle.std.specs.Str.{IsCharBoundary}
 use Rattle.lexer.specs.Lexing.{word_byte, run}
 use Rattle.lexer.proofs.Runs.{word_begins, word_ends, word_first, word_past}
@@ -13,9 +13,9 @@ pub range-word-requires : goal.range-word-requires
 range-word-requires c =
     let e = ends (goal.at.range-word-requires c).After-word_end-end in
     record {
-      start-le-end = omega arith;
-      start-boundary = λ _. word_begins c.args.text.now c.args.at c.requires.0 c.requires.1;
-      end-boundary = subst (IsCharBoundary c.args.text.now) (sym e)
+      start_le_end = omega arith;
+      start_boundary = λ _. word_begins c.args.text.now c.args.at c.requires.0 c.requires.1;
+      end_boundary = subst (IsCharBoundary c.args.text.now) (sym e)
           (word_ends c.args.text.now c.args.at (subst IsUtf8 c.as_bytes.ensures.value c.as_bytes.ensures.utf8) c.requires.0 c.requires.1 (omega (arith, c.as_bytes.ensures.len, c.word_end-end.ensures.within)));
     }
 

@@ -1,4 +1,4 @@
-use Rattle.std.proofs.Common.{◌≡◌, ℕ, List, sym, ap, ◌∙◌, subst, inr, Bor}
+use Rattle.std.proofs.Common.{ℕ, List, sym, ◌∙◌, subst, inr, Bor}
 use Rattle.std.proofs.lemmas.List.{length-map}
 use Rattle.lexer.specs.Tokens.{texts, Lacks}
 use Rattle.lexer.proofs.Numbering.{texts_pushed}

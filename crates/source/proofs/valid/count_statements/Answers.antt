@@ -2,4 +2,4 @@ use Rattle.source.proofs.Counting.{count_is}
 use Rattle.source.proofs.valid.count_statements.Goals as goal
 
 pub returns : goal.returns
-returns c = count_is c.args.command.now c.args.header c.in-ok-last.last c.in-ok-last.ensures
+returns c = count_is c.args.command.now c.args.header c.in_ok-last.last c.in_ok-last.ensures

@@ -4,7 +4,7 @@ use Rattle.source.proofs.valid.has_sizes.Goals as goal
 
 pub returns-in-Some : goal.returns-in-Some
 returns-in-Some c e =
-    let p = c.are-sizes.ensures e in
+    let p = c.are_sizes.ensures e in
     let s = c.in-Some.ensures in
     record {
       header = s.header;

@@ -9,4 +9,4 @@ pub returns-in-Ok : goal.returns-in-Ok
 returns-in-Ok c = c.assemble.ensures
 
 pub returns : goal.returns
-returns c = λ bs e. c.parse-error.ensures bs e (subst (Within c.args.end) (sym c.as-slice-in-Err.ensures.value) c.requires)
+returns c = λ bs e. c.parse_error.ensures bs e (subst (Within c.args.end) (sym c.as_slice-in-Err.ensures.value) c.requires)
