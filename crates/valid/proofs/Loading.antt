@@ -1,9 +1,9 @@
 -- A text that the reader takes for a command that loads a program is that program's; and a text's parts by the program. Rests on the encoding.
-use Rattle.std.proofs.Common.{◌≡◌, ℕ, ◌≤◌, true, List, [], ◌∷◌, length, get_or, drop, sym, refl, ap, ◌∙◌, subst, arith}
+use Rattle.std.proofs.Common.{◌≡◌, ℕ, ◌≤◌, List, length, get_or, drop, sym, refl, ap, ◌∙◌, subst, arith}
 use Rattle.program.specs.Syntax.{Program}
 use Rattle.program.specs.Encoding.{encode_program}
-use Rattle.program.specs.Command.{Command, load, all_alarms, at_end, encode, valid}
-use Rattle.encoding.specs.Reader.{Heard, nothing, heard, hear}
+use Rattle.program.specs.Command.{Command, load, all_alarms, at_end, encode}
+use Rattle.encoding.specs.Reader.{heard}
 use Rattle.encoding.proofs.Hear.{hear_is, encoded_once}
 use Rattle.encoding.specs.Statements.{EncodedOnce}
 use Rattle.reader.specs.Request.{EncodingOf, Reads}

@@ -21,11 +21,11 @@ loop-rest-smaller c = omega (arith, begins_long c.loop-rest.rest.now c.in-Some.c
 
 pub loop-rest-preserved : goal.loop-rest-preserved
 loop-rest-preserved c =
-    subst (λ (cs : List (List ℕ)). SplitSo c.args.file.now c.in-Some.behind.now cs) (sym (pushed _ _ _ c.in-Some.command c.if-is-err.ensures.negation c.push.ensures.items))
+    subst (λ (cs : List (List ℕ)). SplitSo c.args.file.now c.in-Some.behind.now cs) (sym (pushed _ _ _ c.in-Some.command c.if-is_err.ensures.negation c.push.ensures.items))
     (split_more c.args.file.now c.loop-rest.rest.now c.in-Some.behind.now c.in-Some.command.now _ (omega arith) c.in-Some.ensures c.loop-rest.invariant)
 
-pub returns-in-default : goal.returns-in-default
-returns-in-default c = split_damaged c.args.file.now c.loop-rest.rest.now _ (λ e. grind (arith, nat_tests, c.loop-rest-test.ensures)) c.loop-rest.invariant c.in-default.ensures
+pub returns-in_default : goal.returns-in_default
+returns-in_default c = split_damaged c.args.file.now c.loop-rest.rest.now _ (λ e. grind (arith, nat_tests, c.loop-rest-test.ensures)) c.loop-rest.invariant c.in_default.ensures
 
 pub returns : goal.returns
 returns c = split_all c.args.file.now c.loop-rest.rest.now _ (grind (arith, nat_tests, c.loop-rest-test.ensures)) c.loop-rest.invariant

@@ -1,4 +1,4 @@
 use Rattle.shrink.proofs.walk.+expression_end.Given as goal
 
-abbrev pub decreases-expression-end : goal.decreases-expression-end
-decreases-expression-end l = l.left
+abbrev pub decreases-expression_end : goal.decreases-expression_end
+decreases-expression_end l = l.left

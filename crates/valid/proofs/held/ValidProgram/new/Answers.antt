@@ -9,11 +9,11 @@ use Rattle.valid.proofs.held.ValidProgram.new.Goals as goal
 loads_this : (text bytes : List ℕ) (p : Program) → text ≡ bytes → EncodingOf (load p) text → EncodingOf (load (program_of bytes)) bytes
 loads_this text bytes p e h = of_heard bytes p (subst (λ (ts : List ℕ). EncodingOf (load p) ts) e h)
 
-pub invariant-of-result : goal.invariant-of-result
-invariant-of-result c = let h = c.in-Load.ensures in (loads_this _ _ h.program c.as-slice.ensures.value h.encoded, tt)
+pub invariant_of-result : goal.invariant_of-result
+invariant_of-result c = let h = c.in-Load.ensures in record { loads = loads_this _ _ h.program c.as_slice.ensures.value h.encoded }
 
 pub returns-in-Load : goal.returns-in-Load
-returns-in-Load c = let h = c.in-Load.ensures in (refl, loads_this _ _ h.program c.as-slice.ensures.value h.encoded)
+returns-in-Load c = let h = c.in-Load.ensures in (refl, loads_this _ _ h.program c.as_slice.ensures.value h.encoded)
 
-pub returns-in-default : goal.returns-in-default
-returns-in-default c p h = no_load _ c.read-command.result (subst (λ (ts : List ℕ). Reads ts c.read-command.result) c.as-slice.ensures.value c.read-command.ensures) c.in-default.not-Load p h
+pub returns-in_default : goal.returns-in_default
+returns-in_default c p h = no_load _ c.read_command.result (subst (λ (ts : List ℕ). Reads ts c.read_command.result) c.as_slice.ensures.value c.read_command.ensures) c.in_default.not-Load p h
