@@ -1,10 +1,10 @@
 -- Arrays that are held in another form than lists of numbers: elements are read and changed there as in the definitions. Rests on the definitions alone.
-use Rattle.std.proofs.Common.{◌≡◌, ℕ, zero, suc, ◌+◌, ◌<◌, ◌≤◌, Bool, true, false, cond, ltb, List, [], ◌∷◌, length, get_or, set, sym, refl, ap, ◌∙◌, subst, arith}
+use Rattle.std.proofs.Common.{◌≡◌, ℕ, zero, suc, ◌<◌, ◌≤◌, Bool, true, false, cond, ltb, List, [], ◌∷◌, length, get_or, set, sym, refl, ap, ◌∙◌, arith}
 use Rattle.std.proofs.lemmas.List.{get_or_read}
 use Rattle.std.proofs.lemmas.Bool.{lt-ltb, le-ltb}
 use Rattle.program.specs.Basics.{map}
 use Rattle.program.specs.Semantics.{State, nth_array, value, failed}
-use Rattle.runner.specs.Changes.{has_element, element_in, with_element, Stored}
+use Rattle.runner.specs.Changes.{has_element, element_in, Stored}
 
 pub nth_past : {A : Type 0} (f : A → List ℕ) (rows : List A) (r : ℕ) → length rows ≤ r → nth_array (map f rows) r ≡ []
 unfolding nth_array

@@ -1,7 +1,6 @@
 -- Inputs that are read one by one. Rests on the definitions alone.
-use Rattle.std.proofs.Common.{◌≡◌, ℕ, zero, suc, ◌+◌, ◌<◌, ◌≤◌, List, [], ◌∷◌, length, get_or, drop, sym, refl, ap, ◌∙◌, add_comm, drop_of_length-le, drop-drop}
-use Rattle.std.proofs.lemmas.List.{get_or_past}
-use Rattle.program.specs.Semantics.{State, first_input}
+use Rattle.std.proofs.Common.{◌≡◌, ℕ, zero, suc, ◌+◌, ◌≤◌, List, [], ◌∷◌, length, get_or, drop, sym, refl, ap, ◌∙◌, drop_of_length-le, drop-drop}
+use Rattle.program.specs.Semantics.{first_input}
 use Rattle.runner.specs.Changes.{ReadInput}
 
 pub first_drop : (ins : List ℕ) (k : ℕ) → first_input (drop k ins) ≡ get_or ins k 0

@@ -1,5 +1,5 @@
 -- How each kind of statement runs, from what its parts come to. Rests on the definitions alone.
-use Rattle.std.proofs.Common.{◌≡◌, ℕ, zero, suc, ◌-◌, ◌<◌, Bool, true, false, cond, not, eqb, List, Result, sym, refl, ap, ◌∙◌, subst, arith}
+use Rattle.std.proofs.Common.{◌≡◌, ℕ, zero, suc, ◌-◌, ◌<◌, Bool, true, false, cond, not, eqb, Result, sym, refl, ap, ◌∙◌, subst, arith}
 use Rattle.program.specs.Syntax.{Expr, Test, Stmt, skip, assign, store, input, check, seq, branch, loop}
 use Rattle.program.specs.Semantics.{State, Evaluated, value, failed, bind_value, truth, eval, eval_test, with_value, take_input, Outcome, finished, fault, out_of_rounds, or_fault, and_then, run_loop, run}
 use Rattle.runner.specs.Changes.{has_element, with_element, Stored}

@@ -1,16 +1,16 @@
 -- The parts of a statement that is ready at a position are ready at theirs, and its number is read. Rests on what the first byte tells of its parts (encoding's Parts).
-use Rattle.std.proofs.Common.{◌≡◌, ℕ, ◌+◌, ◌-◌, ◌<◌, ◌≤◌, Bool, true, ◌&&◌, ltb, leb, List, [], ◌∷◌, ◌++◌, length, get_or, sym, ap, ◌∙◌, subst, arith}
+use Rattle.std.proofs.Common.{◌≡◌, ℕ, ◌+◌, ◌-◌, ◌<◌, ◌≤◌, true, ltb, leb, List, length, get_or, sym, ap, ◌∙◌, subst, arith}
 use Rattle.std.specs.List.{AllByRecursion as All}
 use Rattle.std.proofs.lemmas.Bool.{ltb-true, leb-true, and_parts}
 use Rattle.program.specs.Basics.{limit}
-use Rattle.program.specs.Syntax.{Expr, Test, Stmt, assign, store, input, check, branch, loop}
+use Rattle.program.specs.Syntax.{Test, Stmt, assign, store, input, check, branch, loop}
 use Rattle.program.specs.Encoding.{encode_expr, encode_test, encode_stmt}
-use Rattle.program.specs.Validity.{valid_expr, valid_test, valid_condition, test_size, valid_stmt, stmt_numbers}
+use Rattle.program.specs.Validity.{valid_test, valid_condition, test_size, valid_stmt, stmt_numbers}
 use Rattle.encoding.specs.Standing.{Stands}
 use Rattle.encoding.specs.Parts.{AssignAt, StoreAt, InputAt, CheckAt, SeqAt, BranchAt, LoopAt}
 use Rattle.encoding.proofs.ReadBack.{Word, all_two}
 use Rattle.encoding.proofs.Standing.{stands_move}
-use Rattle.runner.specs.Ready.{Placed, ExprReady, TestReady, StmtReady}
+use Rattle.runner.specs.Ready.{ExprReady, TestReady, StmtReady}
 use Rattle.runner.specs.Running.{BoundsAt}
 use Rattle.runner.proofs.Placed.{placed}
 use Rattle.runner.proofs.ReadyParts.{exprs_ready}

@@ -1,6 +1,6 @@
 -- What the code finds at each kind of test is what the definitions say.
-use Rattle.std.proofs.Common.{◌≡◌, ℕ, ◌-◌, Bool, true, false, not, eqb, ltb, List, Result, sym, refl, ap, ◌∙◌, subst}
-use Rattle.program.specs.Syntax.{Expr, Test, less, equal, not_test, and_test, or_test}
+use Rattle.std.proofs.Common.{◌≡◌, ℕ, Bool, true, false, not, eqb, ltb, List, Result, ap, ◌∙◌, subst}
+use Rattle.program.specs.Syntax.{Test}
 use Rattle.program.specs.Semantics.{State, Evaluated, value, failed, bind_value, truth, eval, eval_test}
 use Rattle.encoding.specs.Parts.{LessAt, EqualAt, NotAt, AndAt, OrAt}
 use Rattle.runner.specs.Found.{Tests}

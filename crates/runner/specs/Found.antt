@@ -1,5 +1,5 @@
 -- What is found where an expression, a test or a statement stands. Assumes nothing: these are definitions.
-use Rattle.std.specs.Prelude.{◌≡◌, ℕ, List, Ok, Err, Result}
+use Rattle.std.specs.Prelude.{◌≡◌, ℕ, Ok, Err, Result}
 use Rattle.program.specs.Semantics.{Evaluated, value, failed, bind_value, truth, State, Outcome, finished, fault, out_of_rounds, or_fault}
 use Rattle.runner.specs.declared.types.Value.{Value}
 use Rattle.runner.specs.declared.types.Pair.{Pair}

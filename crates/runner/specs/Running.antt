@@ -1,6 +1,6 @@
 -- What the code ensures where it runs statements: of whatever stands there, ready to be run, the run is that of the definitions.
 -- The arguments are what stays the same, the states before and after, and what the function is given. Assumes nothing: these are definitions.
-use Rattle.std.specs.Prelude.{◌≡◌, ℕ, ◌+◌, ◌<◌, List, length, Ok, Result, slice_index}
+use Rattle.std.specs.Prelude.{ℕ, ◌+◌, ◌<◌, List, length, Ok, Result, slice_index}
 use Rattle.program.specs.Basics.{eight, limit}
 use Rattle.program.specs.Syntax.{Expr, Test, Stmt, assign, store, input, check, branch, loop}
 use Rattle.program.specs.Encoding.{encode_expr, encode_test, encode_stmt}

@@ -1,5 +1,5 @@
 // Variables, elements and inputs of a running program.
-ghost use Rattle.std.specs.Prelude.{◌≡◌, ℕ, ◌+◌, ◌&&◌, leb, List, if◌then◌else◌, nat_le, slice_index};
+ghost use Rattle.std.specs.Prelude.{◌≡◌, ℕ, ◌+◌, ◌&&◌, List, if◌then◌else◌, nat_le, slice_index};
 ghost use Rattle.program.specs.Semantics.{with_value, take_input};
 ghost use Rattle.runner.specs.Of.{as_state};
 ghost use Rattle.runner.specs.Changes.{element_in, Stored, ReadInput};
@@ -9,7 +9,7 @@ use crate::types::{NO_ELEMENT, State};
 
 // An input if it is from `low` to `high`, and `low` otherwise.
 fn accepted(next: u64, low: u64, high: u64) -> u64
-    ensures { result ≡ (if leb low next && nat_le next high then next else low) }
+    ensures { result ≡ (if nat_le low next && nat_le next high then next else low) }
 {
     if low <= next && next <= high {
         next

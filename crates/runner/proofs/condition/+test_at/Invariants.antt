@@ -1,4 +1,4 @@
 use Rattle.runner.proofs.condition.+test_at.Given as goal
 
-abbrev pub decreases-test-at : goal.decreases-test-at
-decreases-test-at l = l.left
+abbrev pub decreases-test_at : goal.decreases-test_at
+decreases-test_at l = l.left

@@ -10,72 +10,72 @@ use Rattle.runner.proofs.expression.+eval_at.Goals as goal
 pub returns-then-left-eq0 : goal.returns-then-left-eq0
 returns-then-left-eq0 t c ins e ready = absurd (omega (arith, expr_long e, ready.placed.enough))
 
-pub returns-in-default : goal.returns-in-default
-returns-in-default t c ins e ready = absurd (omega (arith, expr_below _ _ e ready.placed.stands, c.byte-at.ensures))
+pub returns-in_default : goal.returns-in_default
+returns-in_default t c ins e ready = absurd (omega (arith, expr_below _ _ e ready.placed.stands, c.byte_at.ensures))
 
 pub returns-in-0 : goal.returns-in-0
 returns-in-0 t c ins e ready =
-    let h = number_at _ _ e ready.placed.stands (sym c.byte-at.ensures ∙ c.in-0.is) in
+    let h = number_at _ _ e ready.placed.stands (sym c.byte_at.ensures ∙ c.in-0.is) in
     let l = expr_within _ _ e ready.placed.stands in
-    let at : c.saturating-add-in-0.result ≡ c.args.pos + 1 = omega (arith, l, h.long, c.saturating-add-in-0.ensures) in
+    let at : c.saturating_add-in-0.result ≡ c.args.pos + 1 = omega (arith, l, h.long, c.saturating_add-in-0.ensures) in
     record {
-      is = number_value _ _ _ _ e ready h _ (c.word-at.ensures (omega (arith, l, h.long, at)) ∙ ap (λ (k : ℕ). word_at c.args.text.now k) at);
-      end = omega (arith, l, h.long, c.saturating-add-in-0-2.ensures);
+      is = number_value _ _ _ _ e ready h _ (c.word_at.ensures (omega (arith, l, h.long, at)) ∙ ap (λ (k : ℕ). word_at c.args.text.now k) at);
+      end = omega (arith, l, h.long, c.saturating_add-in-0-2.ensures);
     }
 
 pub returns-in-1 : goal.returns-in-1
 returns-in-1 t c ins e ready =
-    let h = variable_at _ _ e ready.placed.stands (sym c.byte-at.ensures ∙ c.in-1.is) in
+    let h = variable_at _ _ e ready.placed.stands (sym c.byte_at.ensures ∙ c.in-1.is) in
     let l = expr_within _ _ e ready.placed.stands in
-    let at : c.saturating-add.result ≡ c.args.pos + 1 = omega (arith, l, h.long, c.saturating-add.ensures) in
+    let at : c.saturating_add.result ≡ c.args.pos + 1 = omega (arith, l, h.long, c.saturating_add.ensures) in
     record {
-      is = variable_value _ _ _ e h c.byte-at-second.result _ (c.byte-at-second.ensures ∙ ap (λ (k : ℕ). get_or c.args.text.now k 0) at) (c.variable.ensures ins);
-      end = omega (arith, l, h.long, c.saturating-add-next.ensures);
+      is = variable_value _ _ _ e h c.byte_at-second.result _ (c.byte_at-second.ensures ∙ ap (λ (k : ℕ). get_or c.args.text.now k 0) at) (c.variable.ensures ins);
+      end = omega (arith, l, h.long, c.saturating_add-next.ensures);
     }
 
-pub returns-in-err-a : goal.returns-in-err-a
-returns-in-err-a t c ins e ready =
-    let h = binary_at _ _ e ready.placed.stands (sym c.byte-at.ensures ∙ c.in-2.is) in
-    let next : c.saturating-add-next.result ≡ c.args.pos + 2 = omega (arith, expr_within _ _ e ready.placed.stands, h.long, c.saturating-add-next.ensures) in
-    let p = err_from_is_err_and c.from-residual.result c.from-residual.ensures.1 in
-    rw (p.1, p.2) (left_fails _ _ _ e h _ (c.in-err-a.ensures ins h.a (operands_ready _ _ _ e ready h _ next).0))
+pub returns-in_err-a-in-2 : goal.returns-in_err-a-in-2
+returns-in_err-a-in-2 t c ins e ready =
+    let h = binary_at _ _ e ready.placed.stands (sym c.byte_at.ensures ∙ c.in-2.is) in
+    let next : c.saturating_add-next.result ≡ c.args.pos + 2 = omega (arith, expr_within _ _ e ready.placed.stands, h.long, c.saturating_add-next.ensures) in
+    let p = err_from_is_err_and c.from_residual.result c.from_residual.ensures.1 in
+    rw (p.1, p.2) (left_fails _ _ _ e h _ (c.in_err-a-in-2.ensures ins h.a (operands_ready _ _ _ e ready h _ next).0))
 
-pub returns-in-err-b : goal.returns-in-err-b
-returns-in-err-b t c ins e ready =
-    let h = binary_at _ _ e ready.placed.stands (sym c.byte-at.ensures ∙ c.in-2.is) in
-    let next : c.saturating-add-next.result ≡ c.args.pos + 2 = omega (arith, expr_within _ _ e ready.placed.stands, h.long, c.saturating-add-next.ensures) in
+pub returns-in_err-b-in-2 : goal.returns-in_err-b-in-2
+returns-in_err-b-in-2 t c ins e ready =
+    let h = binary_at _ _ e ready.placed.stands (sym c.byte_at.ensures ∙ c.in-2.is) in
+    let next : c.saturating_add-next.result ≡ c.args.pos + 2 = omega (arith, expr_within _ _ e ready.placed.stands, h.long, c.saturating_add-next.ensures) in
     let two = operands_ready _ _ _ e ready h _ next in
-    let a = c.in-ok-a.ensures ins h.a two.0 in
-    let p = err_from_is_err_and c.from-residual-in-err-b.result c.from-residual-in-err-b.ensures.1 in
-    rw (p.1, p.2) (right_fails _ _ _ e h _ _ a.is (c.in-err-b.ensures ins h.b (expr_moved _ _ _ _ two.1 _ a.end)))
+    let a = c.in_ok-a-in-2.ensures ins h.a two.0 in
+    let p = err_from_is_err_and c.from_residual-in_err-b-in-2.result c.from_residual-in_err-b-in-2.ensures.1 in
+    rw (p.1, p.2) (right_fails _ _ _ e h _ _ a.is (c.in_err-b-in-2.ensures ins h.b (expr_moved _ _ _ _ two.1 _ a.end)))
 
-pub returns-in-ok-b : goal.returns-in-ok-b
-returns-in-ok-b t c ins e ready =
-    let h = binary_at _ _ e ready.placed.stands (sym c.byte-at.ensures ∙ c.in-2.is) in
+pub returns-in_ok-b-in-2 : goal.returns-in_ok-b-in-2
+returns-in_ok-b-in-2 t c ins e ready =
+    let h = binary_at _ _ e ready.placed.stands (sym c.byte_at.ensures ∙ c.in-2.is) in
     let l = expr_within _ _ e ready.placed.stands in
-    let at : c.saturating-add.result ≡ c.args.pos + 1 = omega (arith, l, h.long, c.saturating-add.ensures) in
-    let next : c.saturating-add-next.result ≡ c.args.pos + 2 = omega (arith, l, h.long, c.saturating-add-next.ensures) in
+    let at : c.saturating_add.result ≡ c.args.pos + 1 = omega (arith, l, h.long, c.saturating_add.ensures) in
+    let next : c.saturating_add-next.result ≡ c.args.pos + 2 = omega (arith, l, h.long, c.saturating_add-next.ensures) in
     let two = operands_ready _ _ _ e ready h _ next in
-    let a = c.in-ok-a.ensures ins h.a two.0 in
-    let b = c.in-ok-b.ensures ins h.b (expr_moved _ _ _ _ two.1 _ a.end) in
+    let a = c.in_ok-a-in-2.ensures ins h.a two.0 in
+    let b = c.in_ok-b-in-2.ensures ins h.b (expr_moved _ _ _ _ two.1 _ a.end) in
     evaluates_as _ _ _ _ _ (omega (arith, h.long, next, a.end, b.end))
-    (c.apply.ensures ∙ sym (binary_value _ _ _ e h c.byte-at-second.result _ _ (c.byte-at-second.ensures ∙ ap (λ (k : ℕ). get_or c.args.text.now k 0) at) a.is b.is))
+    (c.apply.ensures ∙ sym (binary_value _ _ _ e h c.byte_at-second.result _ _ (c.byte_at-second.ensures ∙ ap (λ (k : ℕ). get_or c.args.text.now k 0) at) a.is b.is))
     c.ending.ensures
 
-pub returns-in-err-index : goal.returns-in-err-index
-returns-in-err-index t c ins e ready =
-    let h = element_at _ _ e ready.placed.stands (sym c.byte-at.ensures ∙ c.in-3.is) in
-    let next : c.saturating-add-next.result ≡ c.args.pos + 2 = omega (arith, expr_within _ _ e ready.placed.stands, h.long, c.saturating-add-next.ensures) in
-    let p = err_from_is_err_and c.from-residual-in-err-index.result c.from-residual-in-err-index.ensures.1 in
-    rw (p.1, p.2) (index_fails _ _ _ e h _ (c.in-err-index.ensures ins h.a (index_ready _ _ _ e ready h _ next)))
+pub returns-in_err-index-in-3 : goal.returns-in_err-index-in-3
+returns-in_err-index-in-3 t c ins e ready =
+    let h = element_at _ _ e ready.placed.stands (sym c.byte_at.ensures ∙ c.in-3.is) in
+    let next : c.saturating_add-next.result ≡ c.args.pos + 2 = omega (arith, expr_within _ _ e ready.placed.stands, h.long, c.saturating_add-next.ensures) in
+    let p = err_from_is_err_and c.from_residual-in_err-index-in-3.result c.from_residual-in_err-index-in-3.ensures.1 in
+    rw (p.1, p.2) (index_fails _ _ _ e h _ (c.in_err-index-in-3.ensures ins h.a (index_ready _ _ _ e ready h _ next)))
 
-pub returns-in-ok-index : goal.returns-in-ok-index
-returns-in-ok-index t c ins e ready =
-    let h = element_at _ _ e ready.placed.stands (sym c.byte-at.ensures ∙ c.in-3.is) in
+pub returns-in_ok-index-in-3 : goal.returns-in_ok-index-in-3
+returns-in_ok-index-in-3 t c ins e ready =
+    let h = element_at _ _ e ready.placed.stands (sym c.byte_at.ensures ∙ c.in-3.is) in
     let l = expr_within _ _ e ready.placed.stands in
-    let at : c.saturating-add.result ≡ c.args.pos + 1 = omega (arith, l, h.long, c.saturating-add.ensures) in
-    let next : c.saturating-add-next.result ≡ c.args.pos + 2 = omega (arith, l, h.long, c.saturating-add-next.ensures) in
-    let a = c.in-ok-index.ensures ins h.a (index_ready _ _ _ e ready h _ next) in
+    let at : c.saturating_add.result ≡ c.args.pos + 1 = omega (arith, l, h.long, c.saturating_add.ensures) in
+    let next : c.saturating_add-next.result ≡ c.args.pos + 2 = omega (arith, l, h.long, c.saturating_add-next.ensures) in
+    let a = c.in_ok-index-in-3.ensures ins h.a (index_ready _ _ _ e ready h _ next) in
     evaluates_as _ _ _ _ _ (omega (arith, h.long, next, a.end))
-    (c.element.ensures ins ∙ sym (element_value _ _ _ e h c.byte-at-second.result _ (c.byte-at-second.ensures ∙ ap (λ (k : ℕ). get_or c.args.text.now k 0) at) a.is))
+    (c.element.ensures ins ∙ sym (element_value _ _ _ e h c.byte_at-second.result _ (c.byte_at-second.ensures ∙ ap (λ (k : ℕ). get_or c.args.text.now k 0) at) a.is))
     c.ending-in-3.ensures

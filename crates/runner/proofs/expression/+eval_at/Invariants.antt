@@ -1,4 +1,4 @@
 use Rattle.runner.proofs.expression.+eval_at.Given as goal
 
-abbrev pub decreases-eval-at : goal.decreases-eval-at
-decreases-eval-at l = l.left
+abbrev pub decreases-eval_at : goal.decreases-eval_at
+decreases-eval_at l = l.left

@@ -6,29 +6,29 @@ use Rattle.runner.proofs.skip.+skip_expr.Goals as goal
 
 pub returns-in-0 : goal.returns-in-0
 returns-in-0 t c e h =
-    let p = number_at _ _ e h.stands (sym c.byte-at.ensures ∙ c.in-0.is) in
-    omega (arith, expr_within _ _ e h.stands, p.long, c.saturating-add.ensures)
+    let p = number_at _ _ e h.stands (sym c.byte_at.ensures ∙ c.in-0.is) in
+    omega (arith, expr_within _ _ e h.stands, p.long, c.saturating_add.ensures)
 
 pub returns-in-1 : goal.returns-in-1
 returns-in-1 t c e h =
-    let p = variable_at _ _ e h.stands (sym c.byte-at.ensures ∙ c.in-1.is) in
-    omega (arith, expr_within _ _ e h.stands, p.long, c.saturating-add-in-1.ensures)
+    let p = variable_at _ _ e h.stands (sym c.byte_at.ensures ∙ c.in-1.is) in
+    omega (arith, expr_within _ _ e h.stands, p.long, c.saturating_add-in-1.ensures)
 
 pub returns-in-2 : goal.returns-in-2
 returns-in-2 t c e h =
-    let p = binary_at _ _ e h.stands (sym c.byte-at.ensures ∙ c.in-2.is) in
-    let next : c.saturating-add-in-2.result ≡ c.args.pos + 2 = omega (arith, expr_within _ _ e h.stands, p.long, c.saturating-add-in-2.ensures) in
-    let a = c.skip-expr-mid.ensures p.a (placed _ _ _ _ _ next p.left (omega (arith, p.long, h.enough))) in
-    let mid : c.skip-expr-mid.result ≡ c.args.pos + 2 + length (encode_expr p.a) = omega (arith, a, next) in
-    let b = c.skip-expr.ensures p.b (placed _ _ _ _ _ mid p.right (omega (arith, p.long, h.enough))) in
+    let p = binary_at _ _ e h.stands (sym c.byte_at.ensures ∙ c.in-2.is) in
+    let next : c.saturating_add-in-2.result ≡ c.args.pos + 2 = omega (arith, expr_within _ _ e h.stands, p.long, c.saturating_add-in-2.ensures) in
+    let a = c.skip_expr-mid.ensures p.a (placed _ _ _ _ _ next p.left (omega (arith, p.long, h.enough))) in
+    let mid : c.skip_expr-mid.result ≡ c.args.pos + 2 + length (encode_expr p.a) = omega (arith, a, next) in
+    let b = c.skip_expr.ensures p.b (placed _ _ _ _ _ mid p.right (omega (arith, p.long, h.enough))) in
     omega (arith, b, mid, p.long)
 
 pub returns-in-3 : goal.returns-in-3
 returns-in-3 t c e h =
-    let p = element_at _ _ e h.stands (sym c.byte-at.ensures ∙ c.in-3.is) in
-    let next : c.saturating-add-in-3.result ≡ c.args.pos + 2 = omega (arith, expr_within _ _ e h.stands, p.long, c.saturating-add-in-3.ensures) in
-    let a = c.skip-expr-in-3.ensures p.a (placed _ _ _ _ _ next p.index (omega (arith, p.long, h.enough))) in
+    let p = element_at _ _ e h.stands (sym c.byte_at.ensures ∙ c.in-3.is) in
+    let next : c.saturating_add-in-3.result ≡ c.args.pos + 2 = omega (arith, expr_within _ _ e h.stands, p.long, c.saturating_add-in-3.ensures) in
+    let a = c.skip_expr-in-3.ensures p.a (placed _ _ _ _ _ next p.index (omega (arith, p.long, h.enough))) in
     omega (arith, a, next, p.long)
 
-pub returns-in-default : goal.returns-in-default
-returns-in-default t c e h = absurd (omega (arith, expr_below _ _ e h.stands, c.byte-at.ensures))
+pub returns-in_default : goal.returns-in_default
+returns-in_default t c e h = absurd (omega (arith, expr_below _ _ e h.stands, c.byte_at.ensures))

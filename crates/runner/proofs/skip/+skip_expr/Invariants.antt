@@ -1,4 +1,4 @@
 use Rattle.runner.proofs.skip.+skip_expr.Given as goal
 
-abbrev pub decreases-skip-expr : goal.decreases-skip-expr
-decreases-skip-expr l = l.left
+abbrev pub decreases-skip_expr : goal.decreases-skip_expr
+decreases-skip_expr l = l.left

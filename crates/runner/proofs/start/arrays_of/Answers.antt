@@ -4,17 +4,17 @@ use Rattle.program.specs.Basics.{map}
 use Rattle.runner.proofs.Loading.{length_is, length_small, arrays_more, arrays_all}
 use Rattle.runner.proofs.start.arrays_of.Goals as goal
 
-pub returns-then-length-gt-MOST-ELEMENTS : goal.returns-then-length-gt-MOST-ELEMENTS
-returns-then-length-gt-MOST-ELEMENTS c ns h =
-    omega (arith, length_is _ _ ns h _ _ c.loop-i-test.true c.word-at-length.ensures, length_small _ _ ns h c.loop-i.i c.loop-i-test.true)
+pub returns-then-length-gt-MOST_ELEMENTS : goal.returns-then-length-gt-MOST_ELEMENTS
+returns-then-length-gt-MOST_ELEMENTS c ns h =
+    omega (arith, length_is _ _ ns h _ _ c.loop-i-test.true c.word_at-length.ensures, length_small _ _ ns h c.loop-i.i c.loop-i-test.true)
 
 pub loop-i-preserved : goal.loop-i-preserved
 loop-i-preserved c = (
-  omega (arith, c.in-ok-push.ensures.len, c.loop-i.invariant.0),
+  omega (arith, c.in_ok-push.ensures.len, c.loop-i.invariant.0),
   λ ns h.
-      ap (λ (rows : List (Vec ℕ Global)). map vec_items rows) c.in-ok-push.ensures.items
-      ∙ arrays_more vec_items (vec_items c.loop-i.arrays) ns c.loop-i.i c.word-at-length.result c.in-ok-zeros.field-0 (omega (arith, h.count_is, c.loop-i-test.true))
-      (length_is _ _ ns h _ _ c.loop-i-test.true c.word-at-length.ensures) (c.loop-i.invariant.1 ns h) c.in-ok-zeros.ensures,
+      ap (λ (rows : List (Vec ℕ Global)). map vec_items rows) c.in_ok-push.ensures.items
+      ∙ arrays_more vec_items (vec_items c.loop-i.arrays) ns c.loop-i.i c.word_at-length.result c.in_ok-zeros.field-0 (omega (arith, h.count_is, c.loop-i-test.true))
+      (length_is _ _ ns h _ _ c.loop-i-test.true c.word_at-length.ensures) (c.loop-i.invariant.1 ns h) c.in_ok-zeros.ensures,
 )
 
 pub returns : goal.returns

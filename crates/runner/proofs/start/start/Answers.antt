@@ -3,19 +3,19 @@ use Rattle.std.proofs.lemmas.Result.{err_from_is_err_and}
 use Rattle.runner.proofs.Loading.{vars_are, lengths_counted, begins, begins_not}
 use Rattle.runner.proofs.start.start.Goals as goal
 
-pub returns-in-err-arrays : goal.returns-in-err-arrays
-returns-in-err-arrays c =
-    let p = err_from_is_err_and c.from-residual-in-err-arrays.result c.from-residual-in-err-arrays.ensures.1 in
-    rw (p.1, p.2) (record { starts = begins_not _ _ _ c.in-Some.ensures.1 c.in-err-arrays.ensures; few = tt })
+pub returns-in_err-arrays : goal.returns-in_err-arrays
+returns-in_err-arrays c =
+    let p = err_from_is_err_and c.from_residual-in_err-arrays.result c.from_residual-in_err-arrays.ensures.1 in
+    rw (p.1, p.2) (record { starts = begins_not _ _ _ c.in-Some.ensures.1 c.in_err-arrays.ensures; few = tt })
 
 pub returns : goal.returns
 returns c =
     record {
       starts = λ p h.
-          let z = c.in-ok-arrays.ensures.1 p.arrays (lengths_counted _ p h _ (c.in-Some.ensures.1 p h)) in
+          let z = c.in_ok-arrays.ensures.1 p.arrays (lengths_counted _ p h _ (c.in-Some.ensures.1 p h)) in
           record {
-            state = λ ins. begins p _ _ ins c.byte-at.result c.in-ok-values.ensures (c.byte-at.ensures ∙ vars_are _ p h) z.elements;
+            state = λ ins. begins p _ _ ins c.byte_at.result c.in_ok-values.ensures (c.byte_at.ensures ∙ vars_are _ p h) z.elements;
             count_is = z.count_is;
           };
-      few = omega (arith, c.in-ok-arrays.ensures.0, c.in-Some.ensures.0);
+      few = omega (arith, c.in_ok-arrays.ensures.0, c.in-Some.ensures.0);
     }

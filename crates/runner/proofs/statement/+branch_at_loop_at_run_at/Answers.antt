@@ -10,153 +10,153 @@ use Rattle.runner.proofs.statement.+branch_at_loop_at_run_at.Goals as goal
 
 -- a branch
 
-pub branch-at-returns-in-err-test : goal.branch-at-returns-in-err-test
-branch-at-returns-in-err-test t c x a b ready first other =
-    let p = err_from_is_err_and c.from-residual.result c.from-residual.ensures.1 in
-    rw (p.1, p.2) (branch_stops _ _ _ x a b _ (c.in-err-test.ensures c.args.task.now.inputs.now x ready))
+pub branch_at-returns-in_err-test : goal.branch_at-returns-in_err-test
+branch_at-returns-in_err-test t c x a b ready first other =
+    let p = err_from_is_err_and c.from_residual.result c.from_residual.ensures.1 in
+    rw (p.1, p.2) (branch_stops _ _ _ x a b _ (c.in_err-test.ensures c.args.task.now.inputs.now x ready))
 
-pub branch-at-returns-in-err-second : goal.branch-at-returns-in-err-second
-branch-at-returns-in-err-second t c x a b ready first other =
-    let v = c.in-ok-test.ensures c.args.task.now.inputs.now x ready in
-    let p = err_from_is_err_and c.from-residual-in-err-second.result c.from-residual-in-err-second.ensures.1 in
-    rw (p.1, p.2) (branch_yes _ _ _ x a b _ v.is c.if-test.true ∙ c.in-err-second.ensures a (stmt_moved _ _ _ a first _ v.end))
+pub branch_at-returns-in_err-second : goal.branch_at-returns-in_err-second
+branch_at-returns-in_err-second t c x a b ready first other =
+    let v = c.in_ok-test.ensures c.args.task.now.inputs.now x ready in
+    let p = err_from_is_err_and c.from_residual-in_err-second.result c.from_residual-in_err-second.ensures.1 in
+    rw (p.1, p.2) (branch_yes _ _ _ x a b _ v.is c.if-test.true ∙ c.in_err-second.ensures a (stmt_moved _ _ _ a first _ v.end))
 
-pub branch-at-returns-then-test : goal.branch-at-returns-then-test
-branch-at-returns-then-test t c x a b ready first other =
-    let v = c.in-ok-test.ensures c.args.task.now.inputs.now x ready in
-    let f = c.in-ok-second.ensures a (stmt_moved _ _ _ a first _ v.end) in
-    let mid : c.in-ok-second.second ≡ c.args.pos + length (encode_test x) + length (encode_stmt a) = omega (arith, f.end, v.end) in
-    let last = c.skip-stmt.ensures b (stmt_moved _ _ _ b other _ mid).placed in
+pub branch_at-returns-then-test : goal.branch_at-returns-then-test
+branch_at-returns-then-test t c x a b ready first other =
+    let v = c.in_ok-test.ensures c.args.task.now.inputs.now x ready in
+    let f = c.in_ok-second.ensures a (stmt_moved _ _ _ a first _ v.end) in
+    let mid : c.in_ok-second.second ≡ c.args.pos + length (encode_test x) + length (encode_stmt a) = omega (arith, f.end, v.end) in
+    let last = c.skip_stmt.ensures b (stmt_moved _ _ _ b other _ mid).placed in
     record { is = branch_yes _ _ _ x a b _ v.is c.if-test.true ∙ f.is; end = omega (arith, last, mid) }
 
-pub branch-at-returns : goal.branch-at-returns
-branch-at-returns t c x a b ready first other =
-    let v = c.in-ok-test.ensures c.args.task.now.inputs.now x ready in
-    let f = c.skip-stmt-second.ensures a (stmt_moved _ _ _ a first _ v.end).placed in
-    let mid : c.skip-stmt-second.result ≡ c.args.pos + length (encode_test x) + length (encode_stmt a) = omega (arith, f, v.end) in
-    runs_as _ _ _ _ _ _ (omega (arith, mid)) (branch_no _ _ _ x a b _ v.is c.if-test.false) (c.run-at-2.ensures b (stmt_moved _ _ _ b other _ mid))
+pub branch_at-returns : goal.branch_at-returns
+branch_at-returns t c x a b ready first other =
+    let v = c.in_ok-test.ensures c.args.task.now.inputs.now x ready in
+    let f = c.skip_stmt-second.ensures a (stmt_moved _ _ _ a first _ v.end).placed in
+    let mid : c.skip_stmt-second.result ≡ c.args.pos + length (encode_test x) + length (encode_stmt a) = omega (arith, f, v.end) in
+    runs_as _ _ _ _ _ _ (omega (arith, mid)) (branch_no _ _ _ x a b _ v.is c.if-test.false) (c.run_at-2.ensures b (stmt_moved _ _ _ b other _ mid))
 
 -- a loop
 
-pub loop-at-returns-in-err-test : goal.loop-at-returns-in-err-test
-loop-at-returns-in-err-test t c x a ready body =
-    let p = err_from_is_err_and c.from-residual.result c.from-residual.ensures.1 in
+pub loop_at-returns-in_err-test : goal.loop_at-returns-in_err-test
+loop_at-returns-in_err-test t c x a ready body =
+    let p = err_from_is_err_and c.from_residual.result c.from_residual.ensures.1 in
     rw (p.1, p.2) (loop_runs _ _ _ x a ∙ sym (c.loop-rounds.invariant x a ready body)
-    ∙ loop_stops _ x _ _ c.loop-rounds.rounds _ (omega arith) (c.in-err-test.ensures c.args.task.now.inputs.now x ready))
+    ∙ loop_stops _ x _ _ c.loop-rounds.rounds _ (omega arith) (c.in_err-test.ensures c.args.task.now.inputs.now x ready))
 
-pub loop-at-returns-then-not-test : goal.loop-at-returns-then-not-test
-loop-at-returns-then-not-test t c x a ready body =
-    let v = c.in-ok-test.ensures c.args.task.now.inputs.now x ready in
-    let last = c.skip-stmt.ensures a (stmt_moved _ _ _ a body _ v.end).placed in
+pub loop_at-returns-then-not-test : goal.loop_at-returns-then-not-test
+loop_at-returns-then-not-test t c x a ready body =
+    let v = c.in_ok-test.ensures c.args.task.now.inputs.now x ready in
+    let last = c.skip_stmt.ensures a (stmt_moved _ _ _ a body _ v.end).placed in
     record {
       is = loop_runs _ _ _ x a ∙ sym (c.loop-rounds.invariant x a ready body) ∙ loop_ends _ x _ _ c.loop-rounds.rounds _ (omega arith) v.is (not_true _ c.if-not-test.true);
       end = omega (arith, last, v.end);
     }
 
-pub loop-at-returns-in-err-run-at : goal.loop-at-returns-in-err-run-at
-loop-at-returns-in-err-run-at t c x a ready body =
-    let v = c.in-ok-test.ensures c.args.task.now.inputs.now x ready in
-    let p = err_from_is_err_and c.from-residual-in-err-run-at.result c.from-residual-in-err-run-at.ensures.1 in
+pub loop_at-returns-in_err-run_at : goal.loop_at-returns-in_err-run_at
+loop_at-returns-in_err-run_at t c x a ready body =
+    let v = c.in_ok-test.ensures c.args.task.now.inputs.now x ready in
+    let p = err_from_is_err_and c.from_residual-in_err-run_at.result c.from_residual-in_err-run_at.ensures.1 in
     rw (p.1, p.2) (loop_runs _ _ _ x a ∙ sym (c.loop-rounds.invariant x a ready body)
-    ∙ loop_breaks _ x _ _ c.loop-rounds.rounds _ _ (omega arith) v.is (not_false _ c.if-not-test.false) (c.in-err-run-at.ensures a (stmt_moved _ _ _ a body _ v.end)))
+    ∙ loop_breaks _ x _ _ c.loop-rounds.rounds _ _ (omega arith) v.is (not_false _ c.if-not-test.false) (c.in_err-run_at.ensures a (stmt_moved _ _ _ a body _ v.end)))
 
-pub loop-at-loop-rounds-preserved : goal.loop-at-loop-rounds-preserved
-loop-at-loop-rounds-preserved t c x a ready body =
-    let v = c.in-ok-test.ensures c.args.task.now.inputs.now x ready in
-    let f = c.in-ok-run-at.ensures a (stmt_moved _ _ _ a body _ v.end) in
+pub loop_at-loop-rounds-preserved : goal.loop_at-loop-rounds-preserved
+loop_at-loop-rounds-preserved t c x a ready body =
+    let v = c.in_ok-test.ensures c.args.task.now.inputs.now x ready in
+    let f = c.in_ok-run_at.ensures a (stmt_moved _ _ _ a body _ v.end) in
     loop_again _ x _ _ c.loop-rounds.rounds _ _ (omega arith) v.is (not_false _ c.if-not-test.false) f.is ∙ c.loop-rounds.invariant x a ready body
 
-pub loop-at-returns : goal.loop-at-returns
-loop-at-returns t c x a ready body =
+pub loop_at-returns : goal.loop_at-returns
+loop_at-returns t c x a ready body =
     loop_runs _ _ _ x a ∙ sym (c.loop-rounds.invariant x a ready body) ∙ loop_out _ x _ _ c.loop-rounds.rounds (omega arith)
 
 -- every statement, by its first byte
 
-pub run-at-returns-then-left-eq0 : goal.run-at-returns-then-left-eq0
-run-at-returns-then-left-eq0 t c d ready = absurd (omega (arith, stmt_long d, ready.placed.enough))
+pub run_at-returns-then-left-eq0 : goal.run_at-returns-then-left-eq0
+run_at-returns-then-left-eq0 t c d ready = absurd (omega (arith, stmt_long d, ready.placed.enough))
 
-pub run-at-returns-in-default : goal.run-at-returns-in-default
-run-at-returns-in-default t c d ready = absurd (omega (arith, stmt_below _ _ d ready.placed.stands, c.byte-at.ensures))
+pub run_at-returns-in_default : goal.run_at-returns-in_default
+run_at-returns-in_default t c d ready = absurd (omega (arith, stmt_below _ _ d ready.placed.stands, c.byte_at.ensures))
 
-pub run-at-returns-in-0 : goal.run-at-returns-in-0
-run-at-returns-in-0 t c d ready =
-    let h = skip_at _ _ d ready.placed.stands (sym c.byte-at.ensures ∙ c.in-0.is) in
-    record { is = skip_runs _ _ d h.is; end = omega (arith, stmt_within _ _ d ready.placed.stands, h.long, c.saturating-add-in-0.ensures) }
+pub run_at-returns-in-0 : goal.run_at-returns-in-0
+run_at-returns-in-0 t c d ready =
+    let h = skip_at _ _ d ready.placed.stands (sym c.byte_at.ensures ∙ c.in-0.is) in
+    record { is = skip_runs _ _ d h.is; end = omega (arith, stmt_within _ _ d ready.placed.stands, h.long, c.saturating_add-in-0.ensures) }
 
-pub run-at-returns-in-1 : goal.run-at-returns-in-1
-run-at-returns-in-1 t c d ready =
-    let h = assign_at _ _ d ready.placed.stands (sym c.byte-at.ensures ∙ c.in-1.is) in
+pub run_at-returns-in-1 : goal.run_at-returns-in-1
+run_at-returns-in-1 t c d ready =
+    let h = assign_at _ _ d ready.placed.stands (sym c.byte_at.ensures ∙ c.in-1.is) in
     let l = stmt_within _ _ d ready.placed.stands in
-    let at : c.saturating-add.result ≡ c.args.pos + 1 = omega (arith, l, h.long, c.saturating-add.ensures) in
-    let next : c.saturating-add-next.result ≡ c.args.pos + 9 = omega (arith, l, h.long, c.saturating-add-next.ensures) in
-    let k = word_is _ _ h.p h.number (assign_number _ _ _ d ready h) _ _ at c.word-at-number.ensures in
+    let at : c.saturating_add.result ≡ c.args.pos + 1 = omega (arith, l, h.long, c.saturating_add.ensures) in
+    let next : c.saturating_add-next.result ≡ c.args.pos + 9 = omega (arith, l, h.long, c.saturating_add-next.ensures) in
+    let k = word_is _ _ h.p h.number (assign_number _ _ _ d ready h) _ _ at c.word_at-number.ensures in
     runs_as _ _ _ _ _ _ (omega (arith, h.long, next)) (run_same _ _ d _ (assign_is _ _ _ d ready h _ _ k next))
-    (c.assign-at.ensures h.e (assign_ready _ _ _ d ready h (c.saturating-add-next.result + 1) (omega (arith, next))))
+    (c.assign_at.ensures h.e (assign_ready _ _ _ d ready h (c.saturating_add-next.result + 1) (omega (arith, next))))
 
-pub run-at-returns-in-2 : goal.run-at-returns-in-2
-run-at-returns-in-2 t c d ready =
-    let h = store_at _ _ d ready.placed.stands (sym c.byte-at.ensures ∙ c.in-2.is) in
+pub run_at-returns-in-2 : goal.run_at-returns-in-2
+run_at-returns-in-2 t c d ready =
+    let h = store_at _ _ d ready.placed.stands (sym c.byte_at.ensures ∙ c.in-2.is) in
     let l = stmt_within _ _ d ready.placed.stands in
-    let at : c.saturating-add.result ≡ c.args.pos + 1 = omega (arith, l, h.long, c.saturating-add.ensures) in
-    let next : c.saturating-add-next.result ≡ c.args.pos + 9 = omega (arith, l, h.long, c.saturating-add-next.ensures) in
-    let k = word_is _ _ h.p h.number (store_number _ _ _ d ready h) _ _ at c.word-at-number.ensures in
-    let two = store_ready _ _ _ d ready h (c.saturating-add-next.result + 1) (omega (arith, next)) in
+    let at : c.saturating_add.result ≡ c.args.pos + 1 = omega (arith, l, h.long, c.saturating_add.ensures) in
+    let next : c.saturating_add-next.result ≡ c.args.pos + 9 = omega (arith, l, h.long, c.saturating_add-next.ensures) in
+    let k = word_is _ _ h.p h.number (store_number _ _ _ d ready h) _ _ at c.word_at-number.ensures in
+    let two = store_ready _ _ _ d ready h (c.saturating_add-next.result + 1) (omega (arith, next)) in
     runs_as _ _ _ _ _ _ (omega (arith, h.long, next)) (run_same _ _ d _ (store_is _ _ _ d ready h _ _ k next))
-    (c.store-at.ensures h.a h.e two.0 two.1)
+    (c.store_at.ensures h.a h.e two.0 two.1)
 
-pub run-at-returns-in-3 : goal.run-at-returns-in-3
-run-at-returns-in-3 t c d ready =
-    let h = input_at _ _ d ready.placed.stands (sym c.byte-at.ensures ∙ c.in-3.is) in
+pub run_at-returns-in-3 : goal.run_at-returns-in-3
+run_at-returns-in-3 t c d ready =
+    let h = input_at _ _ d ready.placed.stands (sym c.byte_at.ensures ∙ c.in-3.is) in
     let l = stmt_within _ _ d ready.placed.stands in
-    let next : c.saturating-add-next.result ≡ c.args.pos + 9 = omega (arith, l, h.long, c.saturating-add-next.ensures) in
-    let f = c.input-at.ensures h.p h.a h.b (input_bounds _ _ _ d ready h (c.saturating-add-next.result + 1) (omega (arith, next))) in
+    let next : c.saturating_add-next.result ≡ c.args.pos + 9 = omega (arith, l, h.long, c.saturating_add-next.ensures) in
+    let f = c.input_at.ensures h.p h.a h.b (input_bounds _ _ _ d ready h (c.saturating_add-next.result + 1) (omega (arith, next))) in
     record { is = run_same _ _ d _ (input_is _ _ _ d ready h _ next) ∙ f.is; end = omega (arith, f.end, h.long, next) }
 
-pub run-at-returns-in-4 : goal.run-at-returns-in-4
-run-at-returns-in-4 t c d ready =
-    let h = check_at _ _ d ready.placed.stands (sym c.byte-at.ensures ∙ c.in-4.is) in
+pub run_at-returns-in-4 : goal.run_at-returns-in-4
+run_at-returns-in-4 t c d ready =
+    let h = check_at _ _ d ready.placed.stands (sym c.byte_at.ensures ∙ c.in-4.is) in
     let l = stmt_within _ _ d ready.placed.stands in
-    let at : c.saturating-add.result ≡ c.args.pos + 1 = omega (arith, l, h.long, c.saturating-add.ensures) in
-    let next : c.saturating-add-next.result ≡ c.args.pos + 9 = omega (arith, l, h.long, c.saturating-add-next.ensures) in
-    let k = word_is _ _ h.p h.number (check_number _ _ _ d ready h) _ _ at c.word-at-number.ensures in
+    let at : c.saturating_add.result ≡ c.args.pos + 1 = omega (arith, l, h.long, c.saturating_add.ensures) in
+    let next : c.saturating_add-next.result ≡ c.args.pos + 9 = omega (arith, l, h.long, c.saturating_add-next.ensures) in
+    let k = word_is _ _ h.p h.number (check_number _ _ _ d ready h) _ _ at c.word_at-number.ensures in
     runs_as _ _ _ _ _ _ (omega (arith, h.long, next)) (run_same _ _ d _ (check_is _ _ _ d ready h _ k))
-    (c.check-at.ensures h.t (check_ready _ _ _ d ready h _ next))
+    (c.check_at.ensures h.t (check_ready _ _ _ d ready h _ next))
 
-pub run-at-returns-in-err-second : goal.run-at-returns-in-err-second
-run-at-returns-in-err-second t c d ready =
-    let h = seq_at _ _ d ready.placed.stands (sym c.byte-at.ensures ∙ c.in-5.is) in
-    let next : c.saturating-add-in-5.result ≡ c.args.pos + 1 = omega (arith, stmt_within _ _ d ready.placed.stands, h.long, c.saturating-add-in-5.ensures) in
+pub run_at-returns-in_err-second-in-5 : goal.run_at-returns-in_err-second-in-5
+run_at-returns-in_err-second-in-5 t c d ready =
+    let h = seq_at _ _ d ready.placed.stands (sym c.byte_at.ensures ∙ c.in-5.is) in
+    let next : c.saturating_add-in-5.result ≡ c.args.pos + 1 = omega (arith, stmt_within _ _ d ready.placed.stands, h.long, c.saturating_add-in-5.ensures) in
     let two = seq_ready _ _ _ d ready h _ next in
-    let p = err_from_is_err_and c.from-residual.result c.from-residual.ensures.1 in
-    rw (p.1, p.2) (run_same _ _ d _ h.is ∙ seq_stops _ _ h.a h.b _ (c.in-err-second.ensures h.a two.0))
+    let p = err_from_is_err_and c.from_residual.result c.from_residual.ensures.1 in
+    rw (p.1, p.2) (run_same _ _ d _ h.is ∙ seq_stops _ _ h.a h.b _ (c.in_err-second-in-5.ensures h.a two.0))
 
-pub run-at-returns-in-ok-second : goal.run-at-returns-in-ok-second
-run-at-returns-in-ok-second t c d ready =
-    let h = seq_at _ _ d ready.placed.stands (sym c.byte-at.ensures ∙ c.in-5.is) in
-    let next : c.saturating-add-in-5.result ≡ c.args.pos + 1 = omega (arith, stmt_within _ _ d ready.placed.stands, h.long, c.saturating-add-in-5.ensures) in
+pub run_at-returns-in_ok-second-in-5 : goal.run_at-returns-in_ok-second-in-5
+run_at-returns-in_ok-second-in-5 t c d ready =
+    let h = seq_at _ _ d ready.placed.stands (sym c.byte_at.ensures ∙ c.in-5.is) in
+    let next : c.saturating_add-in-5.result ≡ c.args.pos + 1 = omega (arith, stmt_within _ _ d ready.placed.stands, h.long, c.saturating_add-in-5.ensures) in
     let two = seq_ready _ _ _ d ready h _ next in
-    let f = c.in-ok-second.ensures h.a two.0 in
+    let f = c.in_ok-second-in-5.ensures h.a two.0 in
     runs_as _ _ _ _ _ _ (omega (arith, h.long, next, f.end)) (run_same _ _ d _ h.is ∙ seq_goes _ _ h.a h.b _ f.is)
-    (c.run-at-in-5.ensures h.b (stmt_moved _ _ _ h.b two.1 _ f.end))
+    (c.run_at-in-5.ensures h.b (stmt_moved _ _ _ h.b two.1 _ f.end))
 
-pub run-at-returns-in-6 : goal.run-at-returns-in-6
-run-at-returns-in-6 t c d ready =
-    let h = branch_at _ _ d ready.placed.stands (sym c.byte-at.ensures ∙ c.in-6.is) in
+pub run_at-returns-in-6 : goal.run_at-returns-in-6
+run_at-returns-in-6 t c d ready =
+    let h = branch_at _ _ d ready.placed.stands (sym c.byte_at.ensures ∙ c.in-6.is) in
     let l = stmt_within _ _ d ready.placed.stands in
-    let at : c.saturating-add.result ≡ c.args.pos + 1 = omega (arith, l, h.long, c.saturating-add.ensures) in
-    let next : c.saturating-add-next.result ≡ c.args.pos + 9 = omega (arith, l, h.long, c.saturating-add-next.ensures) in
-    let k = word_is _ _ h.p h.number (branch_number _ _ _ d ready h) _ _ at c.word-at-number.ensures in
+    let at : c.saturating_add.result ≡ c.args.pos + 1 = omega (arith, l, h.long, c.saturating_add.ensures) in
+    let next : c.saturating_add-next.result ≡ c.args.pos + 9 = omega (arith, l, h.long, c.saturating_add-next.ensures) in
+    let k = word_is _ _ h.p h.number (branch_number _ _ _ d ready h) _ _ at c.word_at-number.ensures in
     let two = branch_ready _ _ _ d ready h _ next in
     runs_as _ _ _ _ _ _ (omega (arith, h.long, next)) (run_same _ _ d _ (branch_is _ _ _ d ready h _ k))
-    (c.branch-at.ensures h.t h.a h.b (branch_test_ready _ _ _ d ready h _ next) two.0 two.1)
+    (c.branch_at.ensures h.t h.a h.b (branch_test_ready _ _ _ d ready h _ next) two.0 two.1)
 
-pub run-at-returns-in-7 : goal.run-at-returns-in-7
-run-at-returns-in-7 t c d ready =
-    let h = loop_at _ _ d ready.placed.stands (sym c.byte-at.ensures ∙ c.in-7.is) in
+pub run_at-returns-in-7 : goal.run_at-returns-in-7
+run_at-returns-in-7 t c d ready =
+    let h = loop_at _ _ d ready.placed.stands (sym c.byte_at.ensures ∙ c.in-7.is) in
     let l = stmt_within _ _ d ready.placed.stands in
-    let at : c.saturating-add.result ≡ c.args.pos + 1 = omega (arith, l, h.long, c.saturating-add.ensures) in
-    let next : c.saturating-add-next.result ≡ c.args.pos + 9 = omega (arith, l, h.long, c.saturating-add-next.ensures) in
-    let k = word_is _ _ h.p h.number (loop_number _ _ _ d ready h) _ _ at c.word-at-number.ensures in
+    let at : c.saturating_add.result ≡ c.args.pos + 1 = omega (arith, l, h.long, c.saturating_add.ensures) in
+    let next : c.saturating_add-next.result ≡ c.args.pos + 9 = omega (arith, l, h.long, c.saturating_add-next.ensures) in
+    let k = word_is _ _ h.p h.number (loop_number _ _ _ d ready h) _ _ at c.word_at-number.ensures in
     let two = loop_ready _ _ _ d ready h _ next in
     runs_as _ _ _ _ _ _ (omega (arith, h.long, next)) (run_same _ _ d _ (loop_is _ _ _ d ready h _ k))
-    (c.loop-at.ensures h.t h.a two.0 two.1)
+    (c.loop_at.ensures h.t h.a two.0 two.1)

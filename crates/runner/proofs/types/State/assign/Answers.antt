@@ -1,6 +1,5 @@
 use Rattle.std.proofs.Common.{ℕ, List, vec_items, sym, ap, arith}
 use Rattle.std.proofs.lemmas.List.{set_past}
-use Rattle.program.specs.Semantics.{State}
 use Rattle.runner.specs.Of.{as_state}
 use Rattle.runner.proofs.types.State.assign.Goals as goal
 
