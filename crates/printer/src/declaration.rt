@@ -1,6 +1,6 @@
 // The declarations of a program's variables and arrays.
 ghost use Rattle.std.specs.Prelude.{◌≡◌, string_bytes, OnOk};
-ghost use Rattle.printer.specs.Text.{separator as separator-text, line_end, variables_line, arrays_line};
+ghost use Rattle.printer.specs.Text.{separator as separator_text, line_end, variables_line, arrays_line};
 ghost use Rattle.printer.specs.Printing.{Adds};
 
 use crate::write::{put, put_array, put_number, put_variable};
@@ -8,7 +8,7 @@ use std::alloc::AllocError;
 
 // What stands before the declared word with this index.
 fn separator(first: &'static str, i: u64) -> &'static str
-    ensures { result.now ≡ separator-text first.now i }
+    ensures { result.now ≡ separator_text first.now i }
 {
     if i == 0 { first } else { ", " }
 }

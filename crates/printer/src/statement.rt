@@ -1,6 +1,6 @@
 // Statements printed from their bytes, a line each.
 ghost use Rattle.std.specs.Prelude.{◌≡◌, IfOk, string_bytes};
-ghost use Rattle.printer.specs.Text.{deeper as deeper-level};
+ghost use Rattle.printer.specs.Text.{deeper as deeper_level};
 ghost use Rattle.printer.specs.Printing.{StmtPrinted, BlockPrinted, FirstPrinted, ElsePrinted, AssignPrinted, StorePrinted, InputPrinted, CheckPrinted, BranchPrinted, LoopPrinted};
 
 use crate::condition::print_test;
@@ -19,7 +19,7 @@ const SEQ: u8 = 5;
 
 // One level more.
 fn deeper(depth: usize) -> usize
-    ensures { result ≡ deeper-level depth }
+    ensures { result ≡ deeper_level depth }
 {
     if depth < DEEPEST { depth + 1 } else { depth }
 }

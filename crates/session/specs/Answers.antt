@@ -1,6 +1,6 @@
 -- What a command is answered, for a program that the memory stands for. Assumes nothing: these are definitions.
 use Rattle.std.specs.Prelude.{◌≡◌, ℕ, ◌<◌, ◌≤◌, List, [], ◌∷◌, slice_index}
-use Rattle.std.specs.List.{AllByRecursion as All}
+use Rattle.std.specs.List.{AllByRecursion}
 use Rattle.program.specs.Basics.{limit}
 use Rattle.program.specs.Syntax.{Program}
 use Rattle.program.specs.Semantics.{State, finished, fault, run_program}
@@ -18,7 +18,7 @@ pub record Ended (m text : List ℕ) (rows : List Row) (end : ℕ) (m₁ : List 
   pub steps : ℕ
   pub runs : run_machine steps own m (command text) [] ≡ ran m₁ (rows_bytes rows) end
   pub over : end < 1000
-  pub words : All Words rows
+  pub words : AllByRecursion Words rows
 
 -- whatever program the memory stood for, it stands for it still
 abbrev pub Kept : (m m₁ : List ℕ) → Type 0

@@ -1,7 +1,7 @@
 -- What is owed of a walk over bytes that collects thresholds in a table. Assumes nothing: these are definitions.
 use Rattle.std.specs.Prelude.{◌≡◌, ℕ, ◌+◌, ◌-◌, ◌<◌, ◌≤◌, true, List, [], ◌∷◌, ◌++◌, length, take, drop, nat_lt}
 use Rattle.std.proofs.lemmas.List.Edits.{sets}
-use Rattle.std.specs.List.{AllByRecursion as All}
+use Rattle.std.specs.List.{AllByRecursion}
 use Rattle.std.specs.List.Sorted.{IsNonDecreasing, IsPermutation}
 use Rattle.program.specs.Basics.{filter, flat_map, limit}
 use Rattle.program.specs.Syntax.{Stmt}
@@ -21,7 +21,7 @@ Low m = m < 18446744073709551616
 
 -- thresholds that can be told, and room for them from count on
 pub record Room (ms table : List ℕ) (count : ℕ) : Type 0 where
-  pub low : All Low ms
+  pub low : AllByRecursion Low ms
   pub fits : count + length (small ms) ≤ length table
 
 -- the bytes stand at the position and are no more than left, and there is room for their thresholds

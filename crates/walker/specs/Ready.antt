@@ -1,6 +1,6 @@
 -- What stands at a position and is valid, so that the pass can go through it there. Assumes nothing: these are definitions.
 use Rattle.std.specs.Prelude.{◌≡◌, ℕ, ◌<◌, ◌≤◌, true, List, length}
-use Rattle.std.specs.List.{AllByRecursion as All}
+use Rattle.std.specs.List.{AllByRecursion}
 use Rattle.program.specs.Syntax.{Stmt}
 use Rattle.program.specs.Encoding.{encode_stmt}
 use Rattle.program.specs.Validity.{valid_stmt, stmt_numbers}
@@ -17,7 +17,7 @@ pub record StmtReady (text : List ℕ) (pos left : ℕ) (d : Stmt) : Type 0 wher
   pub stands : Stands text pos (encode_stmt d)
   pub enough : length (encode_stmt d) ≤ left
   pub valid : valid_stmt variables arrays d ≡ true
-  pub low : All Low (stmt_numbers d)
+  pub low : AllByRecursion Low (stmt_numbers d)
 
 -- the first bytes of statements without parts: assignments, stores, inputs, checks
 abbrev pub HasNoParts : ℕ → Type 0

@@ -15,8 +15,8 @@ loop-x-init c p st v = (st, no_ends p _ c.new-ends.ensures.items)
 pub loop-x-preserved : goal.loop-x-preserved
 loop-x-preserved c p st v =
     let h = c.loop-x.invariant p st v in
-    let g = c.in-ok-row.ensures p h.0 (omega (arith, c.loop-x-test.true)) in
-    (g.0, ends_more p c.loop-x.x (vec_items c.loop-x.ends) (vec_items c.push.new.self) c.in-ok-row.row h.1 g.1 c.in-ok-push.ensures.items)
+    let g = c.in_ok-row.ensures p h.0 (omega (arith, c.loop-x-test.true)) in
+    (g.0, ends_more p c.loop-x.x (vec_items c.loop-x.ends) (vec_items c.push.new.self) c.in_ok-row.row h.1 g.1 c.in_ok-push.ensures.items)
 
 pub returns : goal.returns
 returns c p st v =

@@ -9,10 +9,10 @@ use Rattle.findings.proofs.report_on.Goals as goal
 pub returns : goal.returns
 returns c =
     let p = held_program c.args.program.now in
-    let loaded = c.in-ok-load.ensures empty_program c.in-ok-session.ensures in
-    let stays = alarms_stand _ _ _ p (c.in-ok-told.ensures.answers p loaded) in
-    let ends = c.in-ok-ends.ensures p stays c.variables.ensures in
+    let loaded = c.in_ok-load.ensures empty_program c.in_ok-session.ensures in
+    let stays = alarms_stand _ _ _ p (c.in_ok-told.ensures.answers p loaded) in
+    let ends = c.in_ok-ends.ensures p stays c.variables.ensures in
     record {
-      tells = tells_all (record { alarms = c.in-ok-told.told.rows; ends = c.in-ok-ends.ends }) p (c.in-ok-told.ensures.faults p loaded) (subst (λ (n : ℕ). AllEnds p n (vec_items c.in-ok-ends.ends)) c.variables.ensures ends);
-      rows = c.in-ok-ends.ends.ok.0 ∙ ends.count ∙ c.variables.ensures;
+      tells = tells_all (record { alarms = c.in_ok-told.told.rows; ends = c.in_ok-ends.ends }) p (c.in_ok-told.ensures.faults p loaded) (subst (λ (n : ℕ). AllEnds p n (vec_items c.in_ok-ends.ends)) c.variables.ensures ends);
+      rows = c.in_ok-ends.ends.ok.0 ∙ ends.count ∙ c.variables.ensures;
     }

@@ -11,5 +11,5 @@ use Rattle.compare.proofs.missing.find_missing.Goals as goal
 pub returns-in-Some : goal.returns-in-Some
 returns-in-Some c =
     subst (λ (o : Outcome). Tells c.args.report.now (as_outcome [] o)) (sym c.in-Fault.is)
-    (subst (λ (rows : List Row). Has (Alarm c.in-Fault.stmt c.in-Fault.kind) rows) c.as-slice.ensures.value
+    (subst (λ (rows : List Row). Has (Alarm c.in-Fault.stmt c.in-Fault.kind) rows) c.as_slice.ensures.value
     (has_at _ _ c.in-Some.field-0 c.in-Some.ensures.0 c.in-Some.ensures.1))

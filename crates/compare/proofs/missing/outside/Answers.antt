@@ -4,12 +4,12 @@ use Rattle.compare.proofs.missing.outside.Goals as goal
 
 pub loop-i-preserved : goal.loop-i-preserved
 loop-i-preserved c =
-    below_more _ _ c.loop-i.invariant (subst (λ (v : ℕ). InRow (get_or c.args.ends.now c.loop-i.i None) v) c.value-of.ensures c.if-not-lies-in.ensures)
+    below_more _ _ c.loop-i.invariant (subst (λ (v : ℕ). InRow (get_or c.args.ends.now c.loop-i.i None) v) c.value_of.ensures c.if-not-lies_in.ensures)
 
-pub returns-then-not-lies-in : goal.returns-then-not-lies-in
-returns-then-not-lies-in c = (
+pub returns-then-not-lies_in : goal.returns-then-not-lies_in
+returns-then-not-lies_in c = (
   c.loop-i-test.true,
-  λ h. c.if-not-lies-in.ensures (subst (λ (v : ℕ). InRow (get_or c.args.ends.now c.loop-i.i None) v) (sym c.value-of.ensures) h),
+  λ h. c.if-not-lies_in.ensures (subst (λ (v : ℕ). InRow (get_or c.args.ends.now c.loop-i.i None) v) (sym c.value_of.ensures) h),
 )
 
 pub returns : goal.returns
