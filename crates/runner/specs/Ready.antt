@@ -1,6 +1,6 @@
 -- What stands at a position, so that it can be stepped over; and what is valid too, so that it can be run. Assumes nothing: these are definitions.
 use Rattle.std.specs.Prelude.{◌≡◌, ℕ, ◌<◌, ◌≤◌, true, List, length}
-use Rattle.std.specs.List.{AllByRecursion as All}
+use Rattle.std.specs.List.{AllByRecursion}
 use Rattle.program.specs.Syntax.{Expr, Test, Stmt}
 use Rattle.program.specs.Encoding.{encode_expr, encode_test, encode_stmt}
 use Rattle.program.specs.Validity.{valid_expr, valid_test, valid_stmt, stmt_numbers}
@@ -31,4 +31,4 @@ pub record StmtReady (text : List ℕ) (pos left : ℕ) (d : Stmt) : Type 0 wher
   pub arrays : ℕ
   pub placed : Placed text pos left (encode_stmt d)
   pub valid : valid_stmt variables arrays d ≡ true
-  pub numbers : All (λ p. p < 18446744073709551616) (stmt_numbers d)
+  pub numbers : AllByRecursion (λ p. p < 18446744073709551616) (stmt_numbers d)

@@ -1,7 +1,7 @@
 -- How the state in which a program's run begins is made from its bytes. Assumes nothing: these are definitions.
 use Rattle.std.specs.Prelude.{◌≡◌, ℕ, ◌≤◌, true, List, length, replicate, Some, None, Ok, Err, vec_items, vec_len, Option, Result, Vec}
 use Rattle.std.specs.declared.alloc.Global.{Global}
-use Rattle.std.specs.List.{AllByRecursion as All}
+use Rattle.std.specs.List.{AllByRecursion}
 use Rattle.program.specs.Basics.{eight, flat_map, map}
 use Rattle.program.specs.Syntax.{Program}
 use Rattle.program.specs.Semantics.{initial}
@@ -27,7 +27,7 @@ Counts text (Some n) = (n ≤ 16) × ((p : Program) → Loads text p → n ≡ l
 pub record LengthsAt (text : List ℕ) (count : ℕ) (ns : List ℕ) : Type 0 where
   pub count_is : length ns ≡ count
   pub stand : Stands text 10 (flat_map eight ns)
-  pub small : All (λ n. n ≤ 65536) ns
+  pub small : AllByRecursion (λ n. n ≤ 65536) ns
 
 -- arrays of these lengths, all zeros
 pub record Zeros (ns : List ℕ) (rows : Vec (Vec ℕ Global) Global) : Type 0 where
