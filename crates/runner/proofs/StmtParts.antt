@@ -1,6 +1,6 @@
 -- The parts of a statement that is ready at a position are ready at theirs, and its number is read. Rests on what the first byte tells of its parts (encoding's Parts).
 use Rattle.std.proofs.Common.{◌≡◌, ℕ, ◌+◌, ◌-◌, ◌<◌, ◌≤◌, true, ltb, leb, List, length, get_or, sym, ap, ◌∙◌, subst, arith}
-use Rattle.std.specs.List.{AllByRecursion as All}
+use Rattle.std.specs.List.{AllByRecursion}
 use Rattle.std.proofs.lemmas.Bool.{ltb-true, leb-true, and_parts}
 use Rattle.program.specs.Basics.{limit}
 use Rattle.program.specs.Syntax.{Test, Stmt, assign, store, input, check, branch, loop}
@@ -22,8 +22,8 @@ module _ (text : List ℕ) (pos left : ℕ) (d : Stmt) (ready : StmtReady text p
   valid_as : (x : Stmt) → d ≡ x → valid_stmt ready.variables ready.arrays x ≡ true
   valid_as x is = subst (λ (y : Stmt). valid_stmt ready.variables ready.arrays y ≡ true) is ready.valid
 
-  numbers_as : (x : Stmt) → d ≡ x → All Word (stmt_numbers x)
-  numbers_as x is = subst (λ (y : Stmt). All Word (stmt_numbers y)) is ready.numbers
+  numbers_as : (x : Stmt) → d ≡ x → AllByRecursion Word (stmt_numbers x)
+  numbers_as x is = subst (λ (y : Stmt). AllByRecursion Word (stmt_numbers y)) is ready.numbers
 
   -- a test behind the statement's number
   condition_ready : (t : Test) → valid_condition ready.variables ready.arrays t ≡ true → Stands text (pos + 9) (encode_test t) → length (encode_test t) ≤ left - 1 →
@@ -37,7 +37,7 @@ module _ (text : List ℕ) (pos left : ℕ) (d : Stmt) (ready : StmtReady text p
       }
 
   -- a statement in it
-  part_ready : (a : Stmt) (from : ℕ) → valid_stmt ready.variables ready.arrays a ≡ true → All Word (stmt_numbers a) → Stands text from (encode_stmt a) →
+  part_ready : (a : Stmt) (from : ℕ) → valid_stmt ready.variables ready.arrays a ≡ true → AllByRecursion Word (stmt_numbers a) → Stands text from (encode_stmt a) →
       length (encode_stmt a) ≤ left - 1 → (at : ℕ) → at ≡ from → StmtReady text at (left - 1) a
   part_ready a from v ns h l at is =
       record { variables = ready.variables; arrays = ready.arrays; placed = placed text at from (left - 1) (encode_stmt a) is h l; valid = v; numbers = ns }
