@@ -1,11 +1,11 @@
 -- What a session's answers come to: the program stays, and the rows tell every fault and every end.
-use Rattle.std.proofs.Common.{◌≡◌, ℕ, ◌+◌, ◌<◌, ◌≤◌, Bool, true, false, cond, ltb, List, [], ◌∷◌, ◌++◌, length, get_or, Some, None, vec_items, Option, sym, refl, ap, ◌∙◌, subst, ⊎_elim, arith}
+use Rattle.std.proofs.Common.{◌≡◌, ℕ, ◌+◌, ◌<◌, ◌≤◌, Bool, true, false, cond, ltb, List, [], ◌∷◌, ◌++◌, get_or, None, vec_items, Option, sym, refl, ap, ◌∙◌, subst, ⊎_elim, arith}
 use Rattle.std.proofs.lemmas.Bool.{lt-ltb, cases_lt}
 use Rattle.std.proofs.lemmas.List.{get_or_append_left, get_or_push, length-append}
 use Rattle.program.specs.Syntax.{Program}
-use Rattle.program.specs.Semantics.{State, Outcome, finished, fault, out_of_rounds, run_program}
+use Rattle.program.specs.Semantics.{Outcome, finished, fault, out_of_rounds, run_program}
 use Rattle.program.specs.Validity.{valid_program}
-use Rattle.program.specs.Command.{Command, load, all_alarms, at_end, encode, valid}
+use Rattle.program.specs.Command.{load, all_alarms, at_end, encode, valid}
 use Rattle.encoding.proofs.Valid.{program_parts}
 use Rattle.analysis.specs.Respond.{respond, answer, refuse}
 use Rattle.model.specs.Promise.{Encodes}

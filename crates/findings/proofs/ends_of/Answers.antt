@@ -1,4 +1,4 @@
-use Rattle.std.proofs.Common.{◌≡◌, ℕ, List, [], length, vec_items, Option, sym, ap, ◌∙◌, subst, arith}
+use Rattle.std.proofs.Common.{◌≡◌, ℕ, List, [], length, vec_items, Option, ap, subst, arith}
 use Rattle.program.specs.Syntax.{Program}
 use Rattle.session.specs.declared.rows.Row.{Row}
 use Rattle.findings.specs.Ends.{AllEnds}

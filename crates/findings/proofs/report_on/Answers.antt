@@ -1,5 +1,4 @@
-use Rattle.std.proofs.Common.{◌≡◌, ℕ, List, vec_items, ◌∙◌, subst}
-use Rattle.program.specs.Syntax.{Program}
+use Rattle.std.proofs.Common.{ℕ, vec_items, ◌∙◌, subst}
 use Rattle.program.specs.Command.{empty_program}
 use Rattle.valid.specs.Held.{held_program}
 use Rattle.findings.specs.Ends.{AllEnds}
