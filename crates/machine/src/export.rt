@@ -1,4 +1,4 @@
-// What C calls: the length of the memory, and a step that answers with one number.
+// What C is offered, by the static library above this crate: the length of the memory, and a step that answers with one number.
 ghost use Rattle.std.specs.Prelude.{◌≡◌};
 ghost use Rattle.model.specs.Memory.{memory_size};
 ghost use Rattle.machine.specs.Export.{code_of, Short, StepCoded};
@@ -32,8 +32,7 @@ fn coded_step(memory: &mut [u64], kind: u64, text: &[u8], out: &mut [u8]) -> u64
 }
 
 // How many words the memory has.
-#[unsafe(no_mangle)]
-pub extern "C" fn yunthrewi_memory_len() -> u64
+pub fn yunthrewi_memory_len() -> u64
     ensures { result ≡ memory_size }
 {
     WORDS as u64
@@ -41,8 +40,7 @@ pub extern "C" fn yunthrewi_memory_len() -> u64
 
 // One step: 0 if the command has ended, 1000 and the length of the row in `out`, or the number of the refusal; 999 if the memory has
 // another length, `kind` is neither 0 nor 1, or `out` has fewer than 16 bytes.
-#[unsafe(no_mangle)]
-pub extern "C" fn yunthrewi_step(memory: &mut [u64], kind: u64, text: &[u8], out: &mut [u8]) -> u64
+pub fn yunthrewi_step(memory: &mut [u64], kind: u64, text: &[u8], out: &mut [u8]) -> u64
     ensures { StepCoded memory.old kind text.now out.old result memory.new out.new }
 {
     coded_step(memory, kind, text, out)

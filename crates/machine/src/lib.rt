@@ -11,6 +11,7 @@ ghost use Rattle.machine.specs.Entry.{asked_properly, StepSays};
 mod export;
 mod load;
 
+pub use export::{yunthrewi_memory_len, yunthrewi_step};
 use load::load;
 use reader::{Request, read_command};
 pub use tables::Told;
