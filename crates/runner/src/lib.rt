@@ -2,6 +2,7 @@
 
 #![tactic(auto)]
 
+mod bytes;
 mod condition;
 mod expression;
 mod memory;

@@ -4,7 +4,7 @@ ghost use Rattle.program.specs.Syntax.{Expr, Test, Stmt};
 ghost use Rattle.program.specs.Encoding.{encode_expr, encode_test, encode_stmt};
 ghost use Rattle.runner.specs.Ready.{Placed};
 
-use bytes_at::byte_at;
+use crate::bytes::byte_at;
 
 // The end of the expression at `pos`, of at most `left` bytes.
 fn skip_expr(text: &[u8], pos: usize, left: usize) -> usize
