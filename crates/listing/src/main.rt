@@ -4,6 +4,7 @@
 
 use anyhow::anyhow;
 use printer::{PrintError, print_program};
+use std::process::ExitCode;
 use std::{env, fs};
 
 fn list(rt: &HostRuntime, path: &str) -> anyhow::Result<()> {
@@ -26,10 +27,10 @@ fn run(rt: &HostRuntime) -> anyhow::Result<()> {
     Ok(())
 }
 
-fn main(rt: HostRuntime) -> anyhow::Result<()> {
+fn main(rt: HostRuntime) -> anyhow::Result<ExitCode> {
     if let Err(e) = run(&rt) {
         eprintln!(rt; "listing: {e}")?;
-        return Err(e);
+        return Ok(ExitCode::FAILURE);
     }
-    Ok(())
+    Ok(ExitCode::SUCCESS)
 }

@@ -5,6 +5,7 @@
 use anyhow::anyhow;
 use script::{ScriptError, hex_text, split_commands};
 use session::{Answer, Session};
+use std::process::ExitCode;
 use std::{env, fs};
 
 fn show(rt: &HostRuntime, answer: &Answer) -> anyhow::Result<()> {
@@ -46,10 +47,10 @@ fn run(rt: &HostRuntime) -> anyhow::Result<()> {
     Ok(())
 }
 
-fn main(rt: HostRuntime) -> anyhow::Result<()> {
+fn main(rt: HostRuntime) -> anyhow::Result<ExitCode> {
     if let Err(e) = run(&rt) {
         eprintln!(rt; "replay: {e}")?;
-        return Err(e);
+        return Ok(ExitCode::FAILURE);
     }
-    Ok(())
+    Ok(ExitCode::SUCCESS)
 }
