@@ -1,5 +1,5 @@
 -- What stands at a position and is valid, so that the pass can go through it there. Assumes nothing: these are definitions.
-use Rattle.std.specs.Prelude.{◌≡◌, ℕ, ◌<◌, ◌≤◌, true, List, length}
+use Rattle.std.specs.Prelude.{◌≡◌, ◌≢◌, ℕ, ◌<◌, ◌≤◌, true, List, length}
 use Rattle.std.specs.List.{AllByRecursion}
 use Rattle.program.specs.Syntax.{Stmt}
 use Rattle.program.specs.Encoding.{encode_stmt}
@@ -22,3 +22,7 @@ pub record StmtReady (text : List ℕ) (pos left : ℕ) (d : Stmt) : Type 0 wher
 -- the first bytes of statements without parts: assignments, stores, inputs, checks
 abbrev pub HasNoParts : ℕ → Type 0
 HasNoParts k = (1 ≤ k) × (k ≤ 4)
+
+-- the first bytes of statements with a number: all but nothing and sequences
+abbrev pub HasNumber : ℕ → Type 0
+HasNumber k = (1 ≤ k) × (k ≢ 5)

@@ -1,12 +1,12 @@
 // The pass through a statement by recursion over its bytes. What is known is one state that is lent down; a call of the recursion holds
 // numbers only, and states are held by value only at branches, loops and tests.
-ghost use Rattle.std.specs.Prelude.{◌≡◌, ℕ, ◌+◌, ◌<◌, List, length};
+ghost use Rattle.std.specs.Prelude.{◌≡◌, ℕ, ◌+◌, ◌<◌, List, length, slice_index};
 ghost use Rattle.std.specs.List.Sorted.{IsNonDecreasing};
 ghost use Rattle.program.specs.Syntax.{Test, Stmt, branch, loop};
 ghost use Rattle.program.specs.Encoding.{encode_test, encode_stmt};
 ghost use Rattle.evaluate.specs.Ready.{TestReady};
 ghost use Rattle.state.specs.Of.{as_abstract};
-ghost use Rattle.walker.specs.Ready.{StmtReady};
+ghost use Rattle.walker.specs.Ready.{StmtReady, HasNumber};
 ghost use Rattle.walker.specs.Walk.{Walked, Settled, Rounded};
 
 use crate::simple::simple_at;
@@ -111,22 +111,23 @@ fn branch_at(
     end
 }
 
-// The statement at `pos`, of at most `left` bytes: its end.
+// A choice, a loop or a statement without parts: its end. It stands apart from `walk_at`, and is called there at two places, so that no compiler
+// puts what it holds into the frames of sequences in each other, of which there may be 16,379.
 #[cycle(branch_at_iterate_at_loop_at_round_at_walk_at)]
-fn walk_at(task: &Task, pos: usize, left: usize, state: &mut Abstract, alarms: &mut [u64]) -> usize
-    ensures { (d : Stmt) → IsNonDecreasing task.now.thresholds.now → StmtReady task.now.text.now pos left d →
+fn numbered_at(
+    task: &Task,
+    pos: usize,
+    left: usize,
+    state: &mut Abstract,
+    alarms: &mut [u64],
+) -> usize
+    requires inside { pos < length task.now.text.now }
+    requires room { 0 < left }
+    ensures { (d : Stmt) → IsNonDecreasing task.now.thresholds.now → StmtReady task.now.text.now pos left d → HasNumber (slice_index task.now.text.now pos) →
         Walked (pos + length (encode_stmt d)) task.now.lengths.now task.now.thresholds.now task.now.rounds
         (as_abstract state.old) alarms.old (as_abstract state.new) alarms.new d result }
 {
-    if left == 0 || pos >= task.text.len() {
-        return pos;
-    }
     match task.text[pos] {
-        0 => pos + 1,
-        5 => {
-            let mid = walk_at(task, pos + 1, left - 1, state, alarms);
-            walk_at(task, mid, left - 1, state, alarms)
-        }
         6 => branch_at(
             task,
             word_at(task.text, pos + 1),
@@ -144,6 +145,27 @@ fn walk_at(task: &Task, pos: usize, left: usize, state: &mut Abstract, alarms: &
             alarms,
         ),
         _ => simple_at(task, pos, left, state, alarms),
+    }
+}
+
+// The statement at `pos`, of at most `left` bytes: its end.
+#[cycle(branch_at_iterate_at_loop_at_round_at_walk_at)]
+fn walk_at(task: &Task, pos: usize, left: usize, state: &mut Abstract, alarms: &mut [u64]) -> usize
+    ensures { (d : Stmt) → IsNonDecreasing task.now.thresholds.now → StmtReady task.now.text.now pos left d →
+        Walked (pos + length (encode_stmt d)) task.now.lengths.now task.now.thresholds.now task.now.rounds
+        (as_abstract state.old) alarms.old (as_abstract state.new) alarms.new d result }
+{
+    if left == 0 || pos >= task.text.len() {
+        return pos;
+    }
+    match task.text[pos] {
+        0 => pos + 1,
+        5 => {
+            let mid = walk_at(task, pos + 1, left - 1, state, alarms);
+            walk_at(task, mid, left - 1, state, alarms)
+        }
+        6 => numbered_at(task, pos, left, state, alarms),
+        _ => numbered_at(task, pos, left, state, alarms),
     }
 }
 

@@ -78,19 +78,25 @@ walk_at-returns-in-5 t c d rising h =
     let end = c.walk_at.ensures s.b rising (ready_at _ _ _ _ s.b (sym mid.end) (seq_second _ _ _ d h s)) in
     walked_as _ _ _ _ _ _ _ _ d _ _ s.is (walked_seq _ _ _ _ _ s.a s.b _ _ _ _ _ _ _ _ mid (walked_at _ _ _ _ _ _ _ _ _ _ s.b _ (omega (arith, mid.end, s.long)) refl end))
 
-pub walk_at-returns-in-6 : goal.walk_at-returns-in-6
-walk_at-returns-in-6 t c d rising h =
+pub numbered_at-returns-in-6 : goal.numbered_at-returns-in-6
+numbered_at-returns-in-6 t c d rising h has =
     let s = branch_at _ _ d h.stands c.in-6.is in
     let p-is = number_is _ _ s.p _ s.number (branch_number _ _ _ d h s) c.word_at.ensures in
     let w = c.branch_at.ensures s.t s.a s.b rising (branch_condition _ _ _ d h s) (branch_first _ _ _ d h s) (branch_second _ _ _ d h s) in
     walked_as _ _ _ _ _ _ _ _ d _ _ (s.is ∙ ap (λ (p : ℕ). branch p s.t s.a s.b) (sym p-is)) (walked_at _ _ _ _ _ _ _ _ _ _ _ _ (omega (arith, s.long)) refl w)
 
-pub walk_at-returns-in-7 : goal.walk_at-returns-in-7
-walk_at-returns-in-7 t c d rising h =
+pub numbered_at-returns-in-7 : goal.numbered_at-returns-in-7
+numbered_at-returns-in-7 t c d rising h has =
     let s = loop_at _ _ d h.stands c.in-7.is in
     let p-is = number_is _ _ s.p _ s.number (loop_number _ _ _ d h s) c.word_at-in-7.ensures in
     let w = c.loop_at.ensures s.t s.a rising (loop_condition _ _ _ d h s) (loop_body _ _ _ d h s) in
     walked_as _ _ _ _ _ _ _ _ d _ _ (s.is ∙ ap (λ (p : ℕ). loop p s.t s.a) (sym p-is)) (walked_at _ _ _ _ _ _ _ _ _ _ _ _ (omega (arith, s.long)) refl w)
 
+pub numbered_at-returns-in_default : goal.numbered_at-returns-in_default
+numbered_at-returns-in_default t c d rising h has = c.simple_at.ensures _ _ d h (omega (arith, stmt_below _ _ d h.stands))
+
+pub walk_at-returns-in-6 : goal.walk_at-returns-in-6
+walk_at-returns-in-6 t c d rising h = c.numbered_at.ensures d rising h (omega (arith, c.in-6.is), λ e. omega (arith, e, c.in-6.is))
+
 pub walk_at-returns-in_default : goal.walk_at-returns-in_default
-walk_at-returns-in_default t c d rising h = c.simple_at.ensures _ _ d h (omega (arith, stmt_below _ _ d h.stands))
+walk_at-returns-in_default t c d rising h = c.numbered_at-in_default.ensures d rising h (omega arith, λ e. omega (arith, e))

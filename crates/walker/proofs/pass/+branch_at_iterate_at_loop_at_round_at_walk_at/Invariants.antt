@@ -10,19 +10,22 @@ use Rattle.walker.specs.Ready.{StmtReady}
 use Rattle.walker.proofs.pass.+branch_at_iterate_at_loop_at_round_at_walk_at.Given as goal
 
 abbrev pub decreases-walk_at : goal.decreases-walk_at
-decreases-walk_at l = 4 * l.left
+decreases-walk_at l = 5 * l.left
+
+abbrev pub decreases-numbered_at : goal.decreases-numbered_at
+decreases-numbered_at l = 5 * l.left - 1
 
 abbrev pub decreases-branch_at : goal.decreases-branch_at
-decreases-branch_at l = 4 * l.left + 1
+decreases-branch_at l = 5 * l.left + 1
 
 abbrev pub decreases-round_at : goal.decreases-round_at
-decreases-round_at l = 4 * l.left + 1
+decreases-round_at l = 5 * l.left + 1
 
 abbrev pub decreases-iterate_at : goal.decreases-iterate_at
-decreases-iterate_at l = 4 * l.left + 2
+decreases-iterate_at l = 5 * l.left + 2
 
 abbrev pub decreases-loop_at : goal.decreases-loop_at
-decreases-loop_at l = 4 * l.left + 3
+decreases-loop_at l = 5 * l.left + 3
 
 -- the rounds that are left come to what all come to
 abbrev pub invariant-iterate_at-loop-i : goal.invariant-iterate_at-loop-i
