@@ -1,6 +1,6 @@
 -- What the states of the code stand for. Assumes nothing: these are definitions.
 use Rattle.std.specs.Prelude.{List, map}
-use Rattle.interval.specs.Interval as plain-interval
+use Rattle.interval.specs.Interval as plain_interval
 use Rattle.interval.specs.declared.types.Interval.{Interval}
 use Rattle.interval.specs.Of.{as_interval}
 use Rattle.analysis.specs.Reach.{unreached, reached}
@@ -10,7 +10,7 @@ use Rattle.state.specs.declared.types.Abstract.{Abstract}
 use Rattle.state.specs.declared.types.Abstract.TheVariants.{Unreached, Reached}
 
 -- a list of intervals
-abbrev pub as_intervals : List Interval → List plain-interval.Interval
+abbrev pub as_intervals : List Interval → List plain_interval.Interval
 as_intervals ss = map as_interval ss
 
 -- the interval of each variable and array
