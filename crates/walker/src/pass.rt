@@ -111,8 +111,9 @@ fn branch_at(
     end
 }
 
-// A choice, a loop or a statement without parts: its end. It stands apart from `walk_at`, and is called there at two places, so that no compiler
-// puts what it holds into the frames of sequences in each other, of which there may be 16,379.
+// A choice, a loop or a statement without parts: its end. It stands apart from `walk_at`, which calls it at two places: a compiler that puts a
+// function called once into its caller would give the room that choices and loops need to each frame of sequences in each other, of which
+// there may be 16,379.
 #[cycle(branch_at_iterate_at_loop_at_round_at_walk_at)]
 fn numbered_at(
     task: &Task,
@@ -164,6 +165,7 @@ fn walk_at(task: &Task, pos: usize, left: usize, state: &mut Abstract, alarms: &
             let mid = walk_at(task, pos + 1, left - 1, state, alarms);
             walk_at(task, mid, left - 1, state, alarms)
         }
+        // Called at two places, as `numbered_at` says.
         6 => numbered_at(task, pos, left, state, alarms),
         _ => numbered_at(task, pos, left, state, alarms),
     }
