@@ -4,3 +4,4 @@ pub mod Semantics
 pub mod Encoding
 pub mod Validity
 pub mod Command
+pub mod Kinds

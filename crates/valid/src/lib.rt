@@ -2,6 +2,8 @@
 
 #![tactic(auto)]
 
+mod command;
 mod held;
 
+pub use command::load_command;
 pub use held::ValidProgram;
