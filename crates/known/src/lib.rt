@@ -70,10 +70,9 @@ fn known_in(text: &[u8], header: &Header, stmt: u64) -> Abstract
 pub fn known_before(text: &[u8], stmt: u64) -> Option<Abstract>
     ensures { Known text.now stmt result }
 {
-    match read_command(text) {
+    match read_command(text)? {
         Request::Load(header) => Some(known_in(text, &header, stmt)),
         Request::Alarms => None,
         Request::AtEnd(_) => None,
-        Request::Refused => None,
     }
 }
