@@ -5,12 +5,10 @@ use Rattle.program.specs.Basics.{smaller, larger}
 use Rattle.program.specs.Syntax.{Expr, num, var, bin, element}
 use Rattle.program.specs.Encoding.{encode_expr}
 use Rattle.interval.specs.Interval.{Interval, interval, meet}
-use Rattle.interval.specs.Arithmetic.{EvalResult as PlainResult}
 use Rattle.interval.specs.declared.types.Interval.{Interval as CodeInterval}
 use Rattle.interval.specs.declared.types.Faults.{Faults}
 use Rattle.interval.specs.declared.types.EvalResult.{EvalResult}
-use Rattle.interval.specs.declared.types.EvalResult.TheVariants.{Value, Never}
-use Rattle.interval.specs.Of.{as_interval, Faulty, faults_or, Says}
+use Rattle.interval.specs.Of.{as_interval, as_intervals, Faulty, faults_or, Says}
 use Rattle.interval.proofs.Combining.{faulty_or}
 use Rattle.analysis.specs.Reach.{unreached, reached, bind, faults_in}
 use Rattle.analysis.specs.AbstractState.{Env, Abstract}
@@ -107,50 +105,51 @@ unfolding test_faults
 faults_first ns Less a b w s e = rw (e, append-nil (eval_interval ns w b).faults) refl
 faults_first ns Equal a b w s e = rw (e, append-nil (eval_interval ns w b).faults) refl
 
--- what a result says, under another name
-pub says_at : (x y : EvalResult) (w : PlainResult) → x ≡ y → Says x w → Says y w
-says_at x y w e h = subst (λ (z : EvalResult). Says z w) e h
-
 -- the first expression has no value
-pub split_no_first : (ns : List ℕ) (h : Abstract) (k : Comparison) (a b : Expr) (f : Faults) (stop at : ℕ) (r : Ways) → r ≡ nowhere f at → at ≡ stop →
-    Says (Never f) (eval_here ns h a) → Splits stop ns h (comparison k a b) r
+pub split_no_first : (ns : List ℕ) (h : Abstract) (k : Comparison) (a b : Expr) (x : EvalResult) (stop at : ℕ) (r : Ways) → r ≡ nowhere x.faults at → at ≡ stop →
+    x.interval ≡ None → Says x (eval_here ns h a) → Splits stop ns h (comparison k a b) r
 unfolding bind faults_in
-split_no_first ns unreached k a b f stop at r none is says = rw none (record { yes = refl; no = refl; faults = says.1; end = is })
-split_no_first ns (reached w) k a b f stop at r none is says =
+split_no_first ns unreached k a b x stop at r none is empty says = rw none (record { yes = refl; no = refl; faults = says.faults; end = is })
+split_no_first ns (reached w) k a b x stop at r none is empty says =
+    let e = says.intervals ∙ ap as_intervals empty in
     rw none (record {
-      yes = assume_no_first ns true k a b w says.0;
-      no = assume_no_first ns false k a b w says.0;
-      faults = subst (Faulty f) (faults_no_first ns k a b w says.0) says.1;
+      yes = assume_no_first ns true k a b w e;
+      no = assume_no_first ns false k a b w e;
+      faults = subst (Faulty x.faults) (faults_no_first ns k a b w e) says.faults;
       end = is;
     })
 
 -- the second has none
-pub split_no_second : (ns : List ℕ) (h : Abstract) (k : Comparison) (a b : Expr) (s : CodeInterval) (f g u : Faults) (stop at : ℕ) (r : Ways) →
-    r ≡ nowhere u at → at ≡ stop → u ≡ faults_or f g →
-    Says (Value s f) (eval_here ns h a) → Says (Never g) (eval_here ns h b) → Splits stop ns h (comparison k a b) r
+pub split_no_second : (ns : List ℕ) (h : Abstract) (k : Comparison) (a b : Expr) (s : CodeInterval) (x y : EvalResult) (u : Faults) (stop at : ℕ) (r : Ways) →
+    r ≡ nowhere u at → at ≡ stop → u ≡ faults_or x.faults y.faults → x.interval ≡ Some s → y.interval ≡ None →
+    Says x (eval_here ns h a) → Says y (eval_here ns h b) → Splits stop ns h (comparison k a b) r
 unfolding bind faults_in
-split_no_second ns unreached k a b s f g u stop at r none is both p q = absurd (no_cons p.0)
-split_no_second ns (reached w) k a b s f g u stop at r none is both p q =
+split_no_second ns unreached k a b s x y u stop at r none is both some empty p q = absurd (no_cons (p.intervals ∙ ap as_intervals some))
+split_no_second ns (reached w) k a b s x y u stop at r none is both some empty p q =
+    let e = p.intervals ∙ ap as_intervals some in
+    let f = q.intervals ∙ ap as_intervals empty in
     rw none (record {
-      yes = assume_no_second ns true k a b w (as_interval s) p.0 q.0;
-      no = assume_no_second ns false k a b w (as_interval s) p.0 q.0;
-      faults = rw both (subst (Faulty (faults_or f g)) (faults_first ns k a b w (as_interval s) p.0) (faulty_or f g _ _ p.1 q.1));
+      yes = assume_no_second ns true k a b w (as_interval s) e f;
+      no = assume_no_second ns false k a b w (as_interval s) e f;
+      faults = rw both (subst (Faulty (faults_or x.faults y.faults)) (faults_first ns k a b w (as_interval s) e) (faulty_or x.faults y.faults _ _ p.faults q.faults));
       end = is;
     })
 
 -- both have values
-pub split_values : (ns : List ℕ) (h : Abstract) (k : Comparison) (a b : Expr) (s t : CodeInterval) (f g : Faults) (stop : ℕ) (before r : Ways) →
-    as_abstract before.yes ≡ h → as_abstract before.no ≡ h → before.faults ≡ faults_or f g → before.end ≡ stop →
-    Says (Value s f) (eval_here ns h a) → Says (Value t g) (eval_here ns h b) →
-    (x y : Option ℕ) → x ≡ variable_of a → y ≡ variable_of b → Compared k x y (as_interval s) (as_interval t) before r → Splits stop ns h (comparison k a b) r
+pub split_values : (ns : List ℕ) (h : Abstract) (k : Comparison) (a b : Expr) (s t : CodeInterval) (x y : EvalResult) (stop : ℕ) (before r : Ways) →
+    as_abstract before.yes ≡ h → as_abstract before.no ≡ h → before.faults ≡ faults_or x.faults y.faults → before.end ≡ stop →
+    x.interval ≡ Some s → y.interval ≡ Some t → Says x (eval_here ns h a) → Says y (eval_here ns h b) →
+    (m n : Option ℕ) → m ≡ variable_of a → n ≡ variable_of b → Compared k m n (as_interval s) (as_interval t) before r → Splits stop ns h (comparison k a b) r
 unfolding bind faults_in
-split_values ns unreached k a b s t f g stop before r yes-is no-is both is p q x y ex ey d = absurd (no_cons p.0)
-split_values ns (reached w) k a b s t f g stop before r yes-is no-is both is p q x y ex ey d =
-    let held = assume_values ns true k a b w (as_interval s) (as_interval t) p.0 q.0 in
-    let failed = assume_values ns false k a b w (as_interval s) (as_interval t) p.0 q.0 in
+split_values ns unreached k a b s t x y stop before r yes-is no-is both is some_x some_y p q m n em en d =
+    absurd (no_cons (p.intervals ∙ ap as_intervals some_x))
+split_values ns (reached w) k a b s t x y stop before r yes-is no-is both is some_x some_y p q m n em en d =
+    let e = p.intervals ∙ ap as_intervals some_x in
+    let held = assume_values ns true k a b w (as_interval s) (as_interval t) e (q.intervals ∙ ap as_intervals some_y) in
+    let failed = assume_values ns false k a b w (as_interval s) (as_interval t) e (q.intervals ∙ ap as_intervals some_y) in
     record {
       yes = cc;
       no = cc;
-      faults = rw (d.faults, both) (subst (Faulty (faults_or f g)) (faults_first ns k a b w (as_interval s) p.0) (faulty_or f g _ _ p.1 q.1));
+      faults = rw (d.faults, both) (subst (Faulty (faults_or x.faults y.faults)) (faults_first ns k a b w (as_interval s) e) (faulty_or x.faults y.faults _ _ p.faults q.faults));
       end = d.end ∙ is;
     }

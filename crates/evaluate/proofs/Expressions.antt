@@ -1,13 +1,14 @@
 -- What the code finds at each kind of expression is what the definitions say.
-use Rattle.std.proofs.Common.{◌≡◌, ℕ, ◌+◌, List, [], ◌∷◌, get_or, sym, refl, ap, ◌∙◌, subst, arith}
+use Rattle.std.proofs.Common.{◌≡◌, ℕ, ◌+◌, List, [], ◌∷◌, get_or, Some, sym, refl, ap, ◌∙◌, subst, arith}
 use Rattle.program.specs.Syntax.{Expr}
+use Rattle.program.specs.Kinds.{operator_code, operator_of}
+use Rattle.program.specs.declared.operator.Operator.{Operator}
 use Rattle.interval.specs.Interval.{Interval as PlainInterval}
 use Rattle.interval.specs.Arithmetic.{capped, combined, element_by}
 use Rattle.interval.specs.declared.types.Interval.{Interval}
-use Rattle.interval.specs.declared.types.Faults.{Faults}
 use Rattle.interval.specs.declared.types.EvalResult.{EvalResult}
-use Rattle.interval.specs.declared.types.EvalResult.TheVariants.{Value}
-use Rattle.interval.specs.Of.{as_interval, Faulty, Says}
+use Rattle.interval.specs.Of.{as_interval, as_intervals, Faulty, Says}
+use Rattle.interval.proofs.Operators.{combined_of}
 use Rattle.analysis.specs.Reach.{unreached, reached}
 use Rattle.analysis.specs.AbstractState.{Env, Abstract, nth_interval}
 use Rattle.analysis.specs.Evaluation.{eval_interval}
@@ -39,19 +40,22 @@ number_says ns w text pos left e ready h n x is says =
     subst (λ (d : Expr). Says x (eval_interval ns w d)) (sym h.is) (subst (λ (m : ℕ). Says x (capped m m)) same says)
 
 pub variable_says : (ns : List ℕ) (g : Abstract) (text : List ℕ) (pos : ℕ) (e : Expr) → (h : VariableAt text pos e) →
-    (v : ℕ) (s : Interval) (f : Faults) → v ≡ get_or text (pos + 1) 0 → as_interval s ≡ variable_in g v → Faulty f [] → Says (Value s f) (eval_interval ns (env_in g) e)
+    (v : ℕ) (s : Interval) (x : EvalResult) → v ≡ get_or text (pos + 1) 0 → as_interval s ≡ variable_in g v → x.interval ≡ Some s → Faulty x.faults [] →
+    Says x (eval_interval ns (env_in g) e)
 unfolding eval_interval
-variable_says ns g text pos e h v s f is found none =
+variable_says ns g text pos e h v s x is found some none =
     let same : nth_interval (env_in g).values h.v ≡ as_interval s =
     ap (λ (k : ℕ). nth_interval (env_in g).values k) (sym (is ∙ h.v_is)) ∙ sym (found ∙ variable_in_env g v) in
-    subst (λ (d : Expr). Says (Value s f) (eval_interval ns (env_in g) d)) (sym h.is) (ap (λ (t : PlainInterval). t ∷ []) same, none)
+    subst (λ (d : Expr). Says x (eval_interval ns (env_in g) d)) (sym h.is)
+    (record { intervals = ap (λ (t : PlainInterval). t ∷ []) same ∙ sym (ap as_intervals some); faults = none })
 
 pub binary_says : (ns : List ℕ) (w : Env) (text : List ℕ) (pos : ℕ) (e : Expr) → (h : BinaryAt text pos e) →
-    (k : ℕ) (x : EvalResult) → k ≡ get_or text (pos + 1) 0 → Says x (combined k (eval_interval ns w h.a) (eval_interval ns w h.b)) → Says x (eval_interval ns w e)
+    (k : ℕ) (o : Operator) (x : EvalResult) → k ≡ get_or text (pos + 1) 0 → o ≡ operator_of k → Says x (combined (operator_code o) (eval_interval ns w h.a) (eval_interval ns w h.b)) → Says x (eval_interval ns w e)
 unfolding eval_interval
-binary_says ns w text pos e h k x is says =
+binary_says ns w text pos e h k o x is of says =
     subst (λ (d : Expr). Says x (eval_interval ns w d)) (sym h.is)
-    (subst (λ (m : ℕ). Says x (combined m (eval_interval ns w h.a) (eval_interval ns w h.b))) (is ∙ h.op_is) says)
+    (subst (λ (m : ℕ). Says x (combined m (eval_interval ns w h.a) (eval_interval ns w h.b))) (is ∙ h.op_is)
+    (rw (combined_of k (eval_interval ns w h.a) (eval_interval ns w h.b)) (rw of at says)))
 
 pub element_says : (ns : List ℕ) (g : Abstract) (text : List ℕ) (pos : ℕ) (e : Expr) → (h : ElementAt text pos e) →
     (k n : ℕ) (s : PlainInterval) (x : EvalResult) → k ≡ get_or text (pos + 1) 0 → n ≡ get_or ns k 0 → s ≡ array_in g k →

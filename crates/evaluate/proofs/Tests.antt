@@ -75,10 +75,10 @@ or_faults ns t u (reached w) = refl
 pub split_same : (ns : List ℕ) (h : Abstract) (t u : Test) (mid stop : ℕ) (a : Ways) → t ≡ u → mid ≡ stop → Splits mid ns h t a → Splits stop ns h u a
 split_same ns h t u mid stop a e is s = subst (λ (v : Test). Splits stop ns h v a) e (subst (λ (k : ℕ). Splits k ns h t a) is s)
 
-pub split_not : (ns : List ℕ) (h : Abstract) (t : Test) (stop : ℕ) (a : Ways) → Splits stop ns h t a →
-    Splits stop ns h (not_test t) (record { yes = a.no; no = a.yes; faults = a.faults; end = a.end })
+pub split_not : (ns : List ℕ) (h : Abstract) (t : Test) (stop : ℕ) (a : Ways) (y n : CodeAbstract) → Splits stop ns h t a → y ≡ a.no → n ≡ a.yes →
+    Splits stop ns h (not_test t) (record { yes = y; no = n; faults = a.faults; end = a.end })
 unfolding assume test_faults
-split_not ns h t stop a s = record { yes = s.no; no = s.yes; faults = s.faults; end = s.end }
+split_not ns h t stop a y n s e f = rw (e, f) (record { yes = s.no; no = s.yes; faults = s.faults; end = s.end })
 
 -- the faults of two tests, the second worked out from g
 two_faults : (ns : List ℕ) (h g : Abstract) (t u : Test) (f e d : Faults) → d ≡ faults_or f e → Faulty f (faults_here ns t h) → Faulty e (faults_here ns u g) →

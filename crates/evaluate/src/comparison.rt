@@ -10,81 +10,73 @@ ghost use Rattle.evaluate.specs.Ready.{ExprReady};
 ghost use Rattle.evaluate.specs.Found.{Splits};
 
 use crate::expression::eval_here;
-use crate::types::{Comparison, Ways};
+use crate::types::{Comparison, Side, Ways};
 use bytes_at::byte_at;
-use interval::{EvalResult, Faults, Interval};
+use interval::Faults;
 use state::Abstract;
 
-// The first, which lies in `s`, is less than the second, which lies in `t`; each is cut if it is a variable.
-fn assume_less(state: &mut Abstract, x: Option<usize>, y: Option<usize>, s: Interval, t: Interval)
-    ensures { as_abstract state.new ≡ less_in x y (as_abstract state.old) (as_interval s) (as_interval t) }
+// The first is less than the second; each is cut if it is a variable.
+fn assume_less(state: &mut Abstract, a: Side, b: Side)
+    ensures { as_abstract state.new ≡ less_in a.variable b.variable (as_abstract state.old) (as_interval a.interval) (as_interval b.interval) }
 {
+    let s = a.interval;
+    let t = b.interval;
     if s.lo >= t.hi {
         *state = Abstract::Unreached;
         return;
     }
-    state.cut(x, 0, t.hi - 1);
-    state.cut(y, s.lo + 1, t.hi);
+    state.cut(a.variable, 0, t.hi - 1);
+    state.cut(b.variable, s.lo + 1, t.hi);
 }
 
 // It is not.
-fn assume_not_less(
-    state: &mut Abstract,
-    x: Option<usize>,
-    y: Option<usize>,
-    s: Interval,
-    t: Interval,
-)
-    ensures { as_abstract state.new ≡ not_less_in x y (as_abstract state.old) (as_interval s) (as_interval t) }
+fn assume_not_less(state: &mut Abstract, a: Side, b: Side)
+    ensures { as_abstract state.new ≡ not_less_in a.variable b.variable (as_abstract state.old) (as_interval a.interval) (as_interval b.interval) }
 {
+    let s = a.interval;
+    let t = b.interval;
     if t.lo > s.hi {
         *state = Abstract::Unreached;
         return;
     }
-    state.cut(x, t.lo, s.hi);
-    state.cut(y, 0, s.hi);
+    state.cut(a.variable, t.lo, s.hi);
+    state.cut(b.variable, 0, s.hi);
 }
 
 // The two are equal.
-fn assume_equal(state: &mut Abstract, x: Option<usize>, y: Option<usize>, s: Interval, t: Interval)
-    ensures { as_abstract state.new ≡ equal_in x y (as_abstract state.old) (as_interval s) (as_interval t) }
+fn assume_equal(state: &mut Abstract, a: Side, b: Side)
+    ensures { as_abstract state.new ≡ equal_in a.variable b.variable (as_abstract state.old) (as_interval a.interval) (as_interval b.interval) }
 {
-    let Some(both) = s.cut(t.lo, t.hi) else {
+    let Some(both) = a.interval.cut(b.interval.lo, b.interval.hi) else {
         *state = Abstract::Unreached;
         return;
     };
-    state.cut(x, both.lo, both.hi);
-    state.cut(y, both.lo, both.hi);
+    state.cut(a.variable, both.lo, both.hi);
+    state.cut(b.variable, both.lo, both.hi);
 }
 
 // They are not, which is impossible only if both are one and the same number.
-fn assume_unequal(state: &mut Abstract, s: Interval, t: Interval)
-    ensures { as_abstract state.new ≡ unequal_in (as_abstract state.old) (as_interval s) (as_interval t) }
+fn assume_unequal(state: &mut Abstract, a: Side, b: Side)
+    ensures { as_abstract state.new ≡ unequal_in (as_abstract state.old) (as_interval a.interval) (as_interval b.interval) }
 {
-    if s.lo == s.hi && t.lo == t.hi && s.lo == t.lo {
+    let s = a.interval;
+    if s.lo == s.hi && s == b.interval {
         *state = Abstract::Unreached;
     }
 }
 
 // Cuts the ways to where the comparison holds, and to where it does not.
-fn compare(
-    ways: &mut Ways,
-    how: Comparison,
-    x: Option<usize>,
-    y: Option<usize>,
-    s: Interval,
-    t: Interval,
-)
-    ensures { Compared how x y (as_interval s) (as_interval t) ways.old ways.new }
+fn compare(ways: &mut Ways, how: Comparison, a: Side, b: Side)
+    ensures { Compared how a.variable b.variable (as_interval a.interval) (as_interval b.interval) ways.old ways.new }
 {
     match how {
         Comparison::Less => {
-            assume_less(&mut ways.yes, x, y, s, t);
-            assume_not_less(&mut ways.no, x, y, s, t);
+            assume_less(&mut ways.yes, a, b);
+            assume_not_less(&mut ways.no, a, b);
         }
         Comparison::Equal => {
-            assume_equal(&mut ways.yes, x, y, s, t);
-            assume_unequal(&mut ways.no, s, t);
+            assume_equal(&mut ways.yes, a, b);
+            assume_unequal(&mut ways.no, a, b);
         }
     }
 }
@@ -93,7 +85,7 @@ fn compare(
 fn variable_at(text: &[u8], pos: usize) -> Option<usize>
     ensures { (e : Expr) → Stands text.now pos (encode_expr e) → result ≡ variable_of e }
 {
-    if pos < text.len() && text[pos] == 1 {
+    if byte_at(text, pos) == 1 {
         return Some(byte_at(text, pos + 1) as usize);
     }
     None
@@ -123,23 +115,22 @@ pub fn compare_at(
     let a = eval_here(text, pos, left, &ways.yes, lengths);
     let b = eval_here(text, a.end, left, &ways.yes, lengths);
     ways.end = b.end;
-    match a.result {
-        EvalResult::Never(f) => stop(ways, f),
-        EvalResult::Value(s, f) => match b.result {
-            EvalResult::Never(g) => stop(ways, f.or(g)),
-            EvalResult::Value(t, g) => {
-                let state = ways.yes;
-                ways.no = state;
-                ways.faults = f.or(g);
-                compare(
-                    ways,
-                    how,
-                    variable_at(text, pos),
-                    variable_at(text, a.end),
-                    s,
-                    t,
-                );
-            }
-        },
-    }
+    let Some(s) = a.result.interval else {
+        return stop(ways, a.result.faults);
+    };
+    let faults = a.result.faults.or(b.result.faults);
+    let Some(t) = b.result.interval else {
+        return stop(ways, faults);
+    };
+    ways.no = ways.yes;
+    ways.faults = faults;
+    let first = Side {
+        variable: variable_at(text, pos),
+        interval: s,
+    };
+    let second = Side {
+        variable: variable_at(text, a.end),
+        interval: t,
+    };
+    compare(ways, how, first, second);
 }

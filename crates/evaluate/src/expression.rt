@@ -11,6 +11,7 @@ ghost use Rattle.evaluate.specs.Found.{env_in, eval_here, Evaluates};
 use crate::types::Evaluated;
 use bytes_at::{byte_at, word_at};
 use interval::{EvalResult, Faults, Interval};
+use program::Operator;
 use state::Abstract;
 
 // No value: for what is no expression.
@@ -18,7 +19,7 @@ fn nothing_at(pos: usize) -> Evaluated
     ensures { Evaluates pos (eval_result [] []) result }
 {
     Evaluated {
-        result: EvalResult::Never(Faults::none()),
+        result: EvalResult::never(Faults::none()),
         end: pos,
     }
 }
@@ -27,7 +28,7 @@ fn nothing_at(pos: usize) -> Evaluated
 pub fn length_at(lengths: &[u64], r: usize) -> u64
     ensures { result ≡ slice_index lengths.now r }
 {
-    if r < lengths.len() { lengths[r] } else { 0 }
+    lengths.get(r).copied().unwrap_or(0)
 }
 
 // The expression at `pos`, of at most `left` bytes; where nothing comes all variables and elements count as 0.
@@ -39,13 +40,14 @@ fn eval_from(text: &[u8], pos: usize, left: usize, state: &Abstract, lengths: &[
         return nothing_at(pos);
     }
     let next = pos.saturating_add(2);
+    // By the numbers of the encoding: an enum of them would be matched once more.
     match text[pos] {
         0 => Evaluated {
             result: Interval::number(word_at(text, pos + 1)),
             end: pos.saturating_add(9),
         },
         1 => Evaluated {
-            result: EvalResult::Value(
+            result: EvalResult::value(
                 state.variable(byte_at(text, pos + 1) as usize),
                 Faults::none(),
             ),
@@ -55,7 +57,11 @@ fn eval_from(text: &[u8], pos: usize, left: usize, state: &Abstract, lengths: &[
             let a = eval_from(text, next, left - 1, state, lengths);
             let b = eval_from(text, a.end, left - 1, state, lengths);
             Evaluated {
-                result: EvalResult::combine(byte_at(text, pos + 1) as u64, a.result, b.result),
+                result: EvalResult::combine(
+                    Operator::from(byte_at(text, pos + 1) as u64),
+                    a.result,
+                    b.result,
+                ),
                 end: b.end,
             }
         }

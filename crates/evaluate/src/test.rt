@@ -10,6 +10,7 @@ use crate::comparison::compare_at;
 use crate::types::{Comparison, Ways};
 use interval::Faults;
 use state::Abstract;
+use std::mem::swap;
 
 // The test at `pos`, of at most `left` bytes, in the state `ways.yes`; `ways` is what it tells then.
 // In place, so that a level of nesting copies a state once or twice, and none is passed by value.
@@ -20,15 +21,13 @@ fn test_from(text: &[u8], pos: usize, left: usize, lengths: &[u64], ways: &mut W
     if left == 0 || pos >= text.len() {
         return;
     }
+    // By the numbers of the encoding: an enum of them would be matched once more.
     match text[pos] {
         0 => compare_at(Comparison::Less, text, pos + 1, left - 1, lengths, ways),
         1 => compare_at(Comparison::Equal, text, pos + 1, left - 1, lengths, ways),
         2 => {
             test_from(text, pos + 1, left - 1, lengths, ways);
-            let yes = ways.yes;
-            let no = ways.no;
-            ways.yes = no;
-            ways.no = yes;
+            swap(&mut ways.yes, &mut ways.no);
         }
         3 => {
             test_from(text, pos + 1, left - 1, lengths, ways);
@@ -42,8 +41,7 @@ fn test_from(text: &[u8], pos: usize, left: usize, lengths: &[u64], ways: &mut W
             test_from(text, pos + 1, left - 1, lengths, ways);
             let first = ways.faults;
             let yes = ways.yes;
-            let no = ways.no;
-            ways.yes = no;
+            ways.yes = ways.no;
             test_from(text, ways.end, left - 1, lengths, ways);
             ways.faults = first.or(ways.faults);
             ways.yes.join(&yes);

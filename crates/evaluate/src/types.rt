@@ -1,9 +1,9 @@
 // What is found where an expression or a test stands.
-use interval::{EvalResult, Faults};
+use interval::{EvalResult, Faults, Interval};
 use state::Abstract;
 
 // What an expression comes to, and where it ends.
-#[derive(Clone, Copy)]
+#[derive(Clone, Copy, PartialEq, Eq, Debug)]
 pub struct Evaluated {
     pub result: EvalResult,
     pub end: usize,
@@ -18,8 +18,15 @@ pub struct Ways {
     pub end: usize,
 }
 
-// How two expressions are compared.
-#[derive(Clone, Copy)]
+// A side of a comparison: the variable that it is, if it is one, and the interval in which it lies.
+#[derive(Clone, Copy, PartialEq, Eq, Debug)]
+pub struct Side {
+    pub variable: Option<usize>,
+    pub interval: Interval,
+}
+
+// How two expressions are compared. It says which test of the language it is, and so no closure stands for it.
+#[derive(Clone, Copy, PartialEq, Eq, Debug)]
 pub enum Comparison {
     Less,
     Equal,

@@ -1,14 +1,13 @@
 -- Results put together, in code and in the definitions. Rests on the definitions alone.
-use Rattle.std.proofs.Common.{◌≡◌, ℕ, Bool, ◌||◌, eqb, List, [], ◌∷◌, ◌++◌, sym, refl, ap, ◌∙◌, append-nil}
+use Rattle.std.proofs.Common.{◌≡◌, ℕ, Bool, ◌||◌, eqb, List, [], ◌∷◌, ◌++◌, Some, None, sym, refl, ap, ◌∙◌, append-nil}
 use mathlib.Core.Bool.{or_assoc}
 use Rattle.program.specs.Basics.{any}
 use Rattle.interval.specs.Interval.{Interval as PlainInterval}
 use Rattle.interval.specs.Arithmetic.{EvalResult as PlainResult, interval_op, with_faults, if_one, if_two, element_of, combined, element_by}
-use Rattle.interval.specs.Of.{as_interval, Faulty, faults_or, after_faults, Says}
+use Rattle.interval.specs.Of.{as_interval, as_intervals, Faulty, faults_or, after_faults, Says}
 use Rattle.interval.specs.declared.types.Interval.{Interval}
 use Rattle.interval.specs.declared.types.Faults.{Faults}
 use Rattle.interval.specs.declared.types.EvalResult.{EvalResult}
-use Rattle.interval.specs.declared.types.EvalResult.TheVariants.{Value, Never}
 
 -- some element of two lists passes
 pub any_append : {A : Type 0} (p : A → Bool) (xs ys : List A) → any p (xs ++ ys) ≡ any p xs || any p ys
@@ -27,35 +26,41 @@ faulty_or f g ks js h e =
 
 -- faults that come first, in code and in the definitions
 pub says_after : (f : Faults) (ks : List ℕ) (r : EvalResult) (w : PlainResult) → Faulty f ks → Says r w → Says (after_faults f r) (with_faults ks w)
-says_after f ks (Value s g) w h e = (e.0, faulty_or f g ks w.faults h e.1)
-says_after f ks (Never g) w h e = (e.0, faulty_or f g ks w.faults h e.1)
+says_after f ks r w h e = record { intervals = e.intervals; faults = faulty_or f r.faults ks w.faults h e.faults }
 
 -- an operation on what the first cannot come to
-pub combined_never : (k : ℕ) (f : Faults) (v w : PlainResult) → Says (Never f) v → Says (Never f) (combined k v w)
+pub combined_never : (k : ℕ) (a : EvalResult) (v w : PlainResult) → a.interval ≡ None → Says a v → Says a (combined k v w)
 unfolding if_one
-combined_never k f v w h = rw (h.0, append-nil v.faults) (refl, h.1)
+combined_never k a v w none h =
+    rw (h.intervals ∙ ap as_intervals none, append-nil v.faults) (record { intervals = sym (ap as_intervals none); faults = h.faults })
 
 -- an operation on what the second cannot come to
-pub combined_no_second : (k : ℕ) (s : Interval) (f g : Faults) (v w : PlainResult) → Says (Value s f) v → Says (Never g) w →
-    Says (Never (faults_or f g)) (combined k v w)
+pub combined_no_second : (k : ℕ) (s : Interval) (a b : EvalResult) (v w : PlainResult) → a.interval ≡ Some s → b.interval ≡ None →
+    Says a v → Says b w → Says (after_faults a.faults b) (combined k v w)
 unfolding if_one if_two
-combined_no_second k s f g v w h e = rw (h.0, e.0, append-nil w.faults) (refl, faulty_or f g v.faults w.faults h.1 e.1)
+combined_no_second k s a b v w some none h e =
+    rw (h.intervals ∙ ap as_intervals some, e.intervals ∙ ap as_intervals none, append-nil w.faults)
+    (record { intervals = sym (ap as_intervals none); faults = faulty_or a.faults b.faults v.faults w.faults h.faults e.faults })
 
 -- an operation on what both can come to
-pub combined_both : (k : ℕ) (s t : Interval) (f g : Faults) (r : EvalResult) (v w : PlainResult) → Says (Value s f) v → Says (Value t g) w →
-    Says r (interval_op k (as_interval s) (as_interval t)) → Says (after_faults f (after_faults g r)) (combined k v w)
+pub combined_both : (k : ℕ) (s t : Interval) (a b r : EvalResult) (v w : PlainResult) → a.interval ≡ Some s → b.interval ≡ Some t →
+    Says a v → Says b w → Says r (interval_op k (as_interval s) (as_interval t)) →
+    Says (after_faults a.faults (after_faults b.faults r)) (combined k v w)
 unfolding if_one if_two
-combined_both k s t f g r v w h e x =
-    rw (h.0, e.0) (says_after f v.faults (after_faults g r) (with_faults w.faults (interval_op k (as_interval s) (as_interval t))) h.1
-    (says_after g w.faults r (interval_op k (as_interval s) (as_interval t)) e.1 x))
+combined_both k s t a b r v w some_a some_b h e x =
+    rw (h.intervals ∙ ap as_intervals some_a, e.intervals ∙ ap as_intervals some_b)
+    (says_after a.faults v.faults (after_faults b.faults r) (with_faults w.faults (interval_op k (as_interval s) (as_interval t))) h.faults
+    (says_after b.faults w.faults r (interval_op k (as_interval s) (as_interval t)) e.faults x))
 
 -- an element at what the index cannot come to
-pub element_never : (n : ℕ) (r : PlainInterval) (f : Faults) (w : PlainResult) → Says (Never f) w → Says (Never f) (element_by n r w)
+pub element_never : (n : ℕ) (r : PlainInterval) (i : EvalResult) (w : PlainResult) → i.interval ≡ None → Says i w → Says i (element_by n r w)
 unfolding if_one
-element_never n r f w h = rw (h.0, append-nil w.faults) (refl, h.1)
+element_never n r i w none h =
+    rw (h.intervals ∙ ap as_intervals none, append-nil w.faults) (record { intervals = sym (ap as_intervals none); faults = h.faults })
 
 -- an element at what the index can come to
-pub element_value : (n : ℕ) (r : PlainInterval) (s : Interval) (f : Faults) (x : EvalResult) (w : PlainResult) → Says (Value s f) w →
-    Says x (element_of n r (as_interval s)) → Says (after_faults f x) (element_by n r w)
+pub element_value : (n : ℕ) (r : PlainInterval) (s : Interval) (i x : EvalResult) (w : PlainResult) → i.interval ≡ Some s → Says i w →
+    Says x (element_of n r (as_interval s)) → Says (after_faults i.faults x) (element_by n r w)
 unfolding if_one
-element_value n r s f x w h e = rw h.0 (says_after f w.faults x (element_of n r (as_interval s)) h.1 e)
+element_value n r s i x w some h e =
+    rw (h.intervals ∙ ap as_intervals some) (says_after i.faults w.faults x (element_of n r (as_interval s)) h.faults e)

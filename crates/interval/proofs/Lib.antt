@@ -1,4 +1,4 @@
-pub mod Quotient
 pub mod Combining
 pub mod Widening
 pub mod Reckoning
+pub mod Operators

@@ -6,7 +6,6 @@ use Rattle.interval.specs.Arithmetic.{EvalResult as PlainResult}
 use Rattle.interval.specs.declared.types.Interval.{Interval}
 use Rattle.interval.specs.declared.types.Faults.{Faults}
 use Rattle.interval.specs.declared.types.EvalResult.{EvalResult}
-use Rattle.interval.specs.declared.types.EvalResult.TheVariants.{Value, Never}
 
 -- the interval of the definitions
 abbrev pub as_interval : Interval → PlainInterval
@@ -26,13 +25,17 @@ faults_or f g =
 
 -- the result with the kinds of f before its own
 abbrev pub after_faults : Faults → EvalResult → EvalResult
-after_faults f (Value s g) = Value s (faults_or f g)
-after_faults f (Never g) = Never (faults_or f g)
+after_faults f r = record { interval = r.interval; faults = faults_or f r.faults }
+
+-- the interval that is there, or none
+abbrev pub as_intervals : Option Interval → List PlainInterval
+as_intervals (Some s) = as_interval s ∷ []
+as_intervals None = []
 
 -- r says what w says
-abbrev pub Says : EvalResult → PlainResult → Type 0
-Says (Value s f) w = (w.intervals ≡ as_interval s ∷ []) × Faulty f w.faults
-Says (Never f) w = (w.intervals ≡ []) × Faulty f w.faults
+pub record Says (r : EvalResult) (w : PlainResult) : Type 0 where
+  pub intervals : w.intervals ≡ as_intervals r.interval
+  pub faults : Faulty r.faults w.faults
 
 -- r is the interval from lo to hi, and there is none unless these are its bounds
 abbrev pub Made : Option Interval → ℕ → ℕ → Type 0

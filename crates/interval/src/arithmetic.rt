@@ -1,23 +1,37 @@
 // The arithmetic of intervals, with the faults that it may have.
-ghost use Rattle.std.specs.Prelude.{◌≡◌, ◌<◌, ◌≤◌, [], ◌∷◌, if◌then◌else◌, nat_eq};
-ghost use Rattle.program.specs.Basics.{larger};
-ghost use Rattle.interval.specs.Arithmetic.{capped, quotient, remainder, interval_op, element_of};
+ghost use Rattle.std.specs.Prelude.{◌≡◌, ℕ, ◌<◌, ◌≤◌, [], ◌∷◌, if◌then◌else◌, nat_eq};
+ghost use Rattle.program.specs.Kinds.{operator_code, fault_number};
+ghost use Rattle.interval.specs.Interval.{Interval as PlainInterval};
+ghost use Rattle.interval.specs.Arithmetic.{capped, quotient, remainder, divided, interval_op, element_of};
 ghost use Rattle.interval.specs.Of.{as_interval, Faulty, Says};
 
-use crate::types::{EvalResult, Faults, Interval, LIMIT};
+use crate::types::{EvalResult, Faults, Interval};
+use program::{Fault, LIMIT, Operator};
+
+// The fault, if it can happen.
+fn faults_if(there: bool, fault: Fault) -> Faults
+    ensures { Faulty result (if there then fault_number fault ∷ [] else []) }
+{
+    if there {
+        Faults::of(fault)
+    } else {
+        Faults::none()
+    }
+}
 
 // From `lo` to `hi` as far as these are numbers; what lies above is an overflow.
 fn capped(lo: u64, hi: u64) -> EvalResult
     requires { lo ≤ hi }
     ensures { Says result (capped lo hi) }
 {
-    if hi < LIMIT {
-        return EvalResult::Value(Interval { lo, hi }, Faults::none());
+    if lo >= LIMIT {
+        return EvalResult::never(Faults::of(Fault::Overflow));
     }
-    if lo < LIMIT {
-        return EvalResult::Value(Interval { lo, hi: LIMIT - 1 }, Faults::overflow());
-    }
-    EvalResult::Never(Faults::overflow())
+    let all = Interval {
+        lo,
+        hi: hi.min(LIMIT - 1),
+    };
+    EvalResult::value(all, faults_if(hi >= LIMIT, Fault::Overflow))
 }
 
 // Quotients by what lies from `least` to `most`.
@@ -39,31 +53,26 @@ fn remainder(a: Interval, least: u64, most: u64) -> Interval
     if a.hi < least {
         return a;
     }
-    if a.hi < most - 1 {
-        return Interval { lo: 0, hi: a.hi };
-    }
     Interval {
         lo: 0,
-        hi: most - 1,
+        hi: a.hi.min(most - 1),
     }
 }
 
-// The least divisor that is not 0.
-fn least_divisor(b: Interval) -> u64
-    ensures { result ≡ larger 1 b.lo }
+// What `by` makes of `a` and the part of `b` that is not 0.
+fn divided<F: FnOnce(Interval, u64, u64) -> Interval>(by: F, a: Interval, b: Interval) -> EvalResult
+    requires { (least most : ℕ) → 0 < least → least ≤ most → most < 4294967296 → F.pre by a least most }
+    ensures { (f : PlainInterval → ℕ → ℕ → PlainInterval) →
+        ((least most : ℕ) (r : Interval) → F.post by a least most r → as_interval r ≡ f (as_interval a) least most) →
+        Says result (divided f (as_interval a) (as_interval b)) }
 {
-    if 1 < b.lo { b.lo } else { 1 }
-}
-
-// A fault if the divisor can be 0.
-fn divisor_faults(b: Interval) -> Faults
-    ensures { Faulty result (if nat_eq b.lo 0 then 2 ∷ [] else []) }
-{
-    if b.lo == 0 {
-        Faults::divisor()
-    } else {
-        Faults::none()
+    if b.hi == 0 {
+        return EvalResult::never(Faults::of(Fault::Divisor));
     }
+    EvalResult::value(
+        by(a, b.lo.max(1), b.hi),
+        faults_if(b.lo == 0, Fault::Divisor),
+    )
 }
 
 impl Interval {
@@ -84,19 +93,13 @@ impl Interval {
         ensures { Says result (interval_op 1 (as_interval self) (as_interval other)) }
     {
         if self.hi < other.lo {
-            return EvalResult::Never(Faults::overflow());
+            return EvalResult::never(Faults::of(Fault::Overflow));
         }
-        let hi = self.hi - other.lo;
-        if other.hi <= self.lo {
-            return EvalResult::Value(
-                Interval {
-                    lo: self.lo - other.hi,
-                    hi,
-                },
-                Faults::none(),
-            );
-        }
-        EvalResult::Value(Interval { lo: 0, hi }, Faults::overflow())
+        let all = Interval {
+            lo: self.lo.saturating_sub(other.hi),
+            hi: self.hi - other.lo,
+        };
+        EvalResult::value(all, faults_if(self.lo < other.hi, Fault::Overflow))
     }
 
     pub fn mul(self, other: Interval) -> EvalResult
@@ -108,33 +111,25 @@ impl Interval {
     pub fn div(self, other: Interval) -> EvalResult
         ensures { Says result (interval_op 3 (as_interval self) (as_interval other)) }
     {
-        if other.hi == 0 {
-            return EvalResult::Never(Faults::divisor());
-        }
-        let all = quotient(self, least_divisor(other), other.hi);
-        EvalResult::Value(all, divisor_faults(other))
+        divided(quotient, self, other)
     }
 
     pub fn rem(self, other: Interval) -> EvalResult
         ensures { Says result (interval_op 4 (as_interval self) (as_interval other)) }
     {
-        if other.hi == 0 {
-            return EvalResult::Never(Faults::divisor());
-        }
-        let all = remainder(self, least_divisor(other), other.hi);
-        EvalResult::Value(all, divisor_faults(other))
+        divided(remainder, self, other)
     }
 
-    // The operation by its number: sum, difference, product, quotient, and else remainder.
-    pub fn apply(op: u64, a: Interval, b: Interval) -> EvalResult
-        ensures { Says result (interval_op op (as_interval a) (as_interval b)) }
+    // An operation on two intervals.
+    pub fn apply(op: Operator, a: Interval, b: Interval) -> EvalResult
+        ensures { Says result (interval_op (operator_code op) (as_interval a) (as_interval b)) }
     {
         match op {
-            0 => a.add(b),
-            1 => a.sub(b),
-            2 => a.mul(b),
-            3 => a.div(b),
-            _ => a.rem(b),
+            Operator::Sum => a.add(b),
+            Operator::Difference => a.sub(b),
+            Operator::Product => a.mul(b),
+            Operator::Quotient => a.div(b),
+            Operator::Remainder => a.rem(b),
         }
     }
 
@@ -142,12 +137,9 @@ impl Interval {
     pub fn element_of(len: u64, array: Interval, index: Interval) -> EvalResult
         ensures { Says result (element_of len (as_interval array) (as_interval index)) }
     {
-        if index.hi < len {
-            return EvalResult::Value(array, Faults::none());
-        }
         if index.lo < len {
-            return EvalResult::Value(array, Faults::index());
+            return EvalResult::value(array, faults_if(index.hi >= len, Fault::Index));
         }
-        EvalResult::Never(Faults::index())
+        EvalResult::never(Faults::of(Fault::Index))
     }
 }

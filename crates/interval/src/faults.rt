@@ -1,8 +1,10 @@
 // The kinds of faults that may happen.
 ghost use Rattle.std.specs.Prelude.{◌≡◌, [], ◌∷◌};
+ghost use Rattle.program.specs.Kinds.{fault_number};
 ghost use Rattle.interval.specs.Of.{Faulty, faults_or};
 
 use crate::types::Faults;
+use program::Fault;
 
 impl Faults {
     pub fn none() -> Faults
@@ -16,51 +18,15 @@ impl Faults {
         }
     }
 
-    // A number below 0 or of 2^32 or more.
-    pub fn overflow() -> Faults
-        ensures { Faulty result (1 ∷ []) }
+    // This one alone.
+    pub fn of(fault: Fault) -> Faults
+        ensures { Faulty result (fault_number fault ∷ []) }
     {
         Faults {
-            overflow: true,
-            divisor: false,
-            index: false,
-            check: false,
-        }
-    }
-
-    // A quotient or a remainder by 0.
-    pub fn divisor() -> Faults
-        ensures { Faulty result (2 ∷ []) }
-    {
-        Faults {
-            overflow: false,
-            divisor: true,
-            index: false,
-            check: false,
-        }
-    }
-
-    // An element that is not there.
-    pub fn index() -> Faults
-        ensures { Faulty result (3 ∷ []) }
-    {
-        Faults {
-            overflow: false,
-            divisor: false,
-            index: true,
-            check: false,
-        }
-    }
-
-    // A check that fails.
-    pub fn check() -> Faults
-        ensures { Faulty result (4 ∷ []) }
-    {
-        Faults {
-            overflow: false,
-            divisor: false,
-            index: false,
-            check: true,
+            overflow: fault == Fault::Overflow,
+            divisor: fault == Fault::Divisor,
+            index: fault == Fault::Index,
+            check: fault == Fault::Check,
         }
     }
 

@@ -1,22 +1,10 @@
 // The order of intervals: joining, comparing, cutting, widening.
 ghost use Rattle.std.specs.Prelude.{◌≡◌};
-ghost use Rattle.program.specs.Basics.{smaller, larger};
 ghost use Rattle.interval.specs.Interval.{interval, join_interval, within_interval, meet};
 ghost use Rattle.interval.specs.Of.{as_interval, Made, Nonempty, widen_to};
 
-use crate::types::{Interval, LIMIT};
-
-fn smaller(a: u64, b: u64) -> u64
-    ensures { result ≡ smaller a b }
-{
-    if a < b { a } else { b }
-}
-
-fn larger(a: u64, b: u64) -> u64
-    ensures { result ≡ larger a b }
-{
-    if a < b { b } else { a }
-}
+use crate::types::Interval;
+use program::LIMIT;
 
 impl Interval {
     // From `lo` to `hi`, if these are bounds of an interval.
@@ -41,8 +29,8 @@ impl Interval {
         ensures { as_interval result ≡ join_interval (as_interval self) (as_interval other) }
     {
         Interval {
-            lo: smaller(self.lo, other.lo),
-            hi: larger(self.hi, other.hi),
+            lo: self.lo.min(other.lo),
+            hi: self.hi.max(other.hi),
         }
     }
 
@@ -57,12 +45,7 @@ impl Interval {
     pub fn cut(self, low: u64, high: u64) -> Option<Interval>
         ensures { Nonempty result (meet (as_interval self) (interval low high)) }
     {
-        let lo = larger(self.lo, low);
-        let hi = smaller(self.hi, high);
-        if hi < lo {
-            return None;
-        }
-        Some(Interval { lo, hi })
+        Interval::new(self.lo.max(low), self.hi.min(high))
     }
 
     // A bound that `other` passes goes on to `below` or `above`, or to that of `other` if that lies further.
@@ -70,12 +53,12 @@ impl Interval {
         ensures { as_interval result ≡ widen_to (as_interval self) (as_interval other) below above }
     {
         let lo = if other.lo < self.lo {
-            smaller(below, other.lo)
+            below.min(other.lo)
         } else {
             self.lo
         };
         let hi = if self.hi < other.hi {
-            smaller(larger(above, other.hi), LIMIT - 1)
+            above.max(other.hi).min(LIMIT - 1)
         } else {
             self.hi
         };

@@ -6,7 +6,7 @@
 ghost use Rattle.std.specs.Prelude.{◌≡◌, ◌+◌, ◌≤◌, length, if◌then◌else◌};
 ghost use Rattle.interval.specs.Arithmetic.{EvalResult as PlainResult};
 ghost use Rattle.interval.specs.Of.{Says};
-ghost use Rattle.interval.specs.Entry.{smaller_of, ReckonSays, refusal, SpanSays};
+ghost use Rattle.interval.specs.Entry.{smaller_of, ReckonSays, refusal, refusal_number, Calculated, SpanSays};
 
 mod arithmetic;
 mod faults;
@@ -14,8 +14,10 @@ mod lattice;
 mod results;
 mod types;
 
+use program::Operator;
 pub use types::{EvalResult, Faults, Interval};
 
+// What `reckon` answers. A fixed interface, and so no Option within a Result.
 #[derive(Clone, Copy)]
 pub enum Reply {
     // What may go wrong, as bits; the interval stands in the slice.
@@ -24,6 +26,30 @@ pub enum Reply {
     Never(u64),
     // The number of the refusal.
     Refused(u64),
+}
+
+// Why an operation is refused.
+#[derive(Clone, Copy, PartialEq, Eq, Debug)]
+enum Refusal {
+    // There is no such operation.
+    Operation,
+    // Two bounds are those of no interval.
+    Bounds,
+    // The lent slice is too short.
+    Room,
+}
+
+impl Refusal {
+    // The number of it that is told.
+    fn number(self) -> u64
+        ensures { result ≡ refusal_number self }
+    {
+        match self {
+            Refusal::Operation => 1,
+            Refusal::Bounds => 2,
+            Refusal::Room => 3,
+        }
+    }
 }
 
 // There are so many operations, numbered from 0.
@@ -36,9 +62,7 @@ const PLACES: usize = 2;
 fn fault_bits(f: Faults) -> u64
     ensures { result ≡ (if f.overflow then 1 else 0) + (if f.divisor then 2 else 0) }
 {
-    let overflow = if f.overflow { 1 } else { 0 };
-    let divisor = if f.divisor { 2 } else { 0 };
-    overflow + divisor
+    u64::from(f.overflow) + 2 * u64::from(f.divisor)
 }
 
 // Puts the interval into the slice.
@@ -46,46 +70,48 @@ fn put_result(res: EvalResult, out: &mut [u64]) -> Reply
     requires { 2 ≤ length out.old }
     ensures { (w : PlainResult) → Says res w → ReckonSays w out.old result out.new }
 {
-    match res {
-        EvalResult::Value(s, f) => {
-            out[0] = s.lo;
-            out[1] = s.hi;
-            Reply::Spread(fault_bits(f))
-        }
-        EvalResult::Never(f) => Reply::Never(fault_bits(f)),
-    }
+    let bits = fault_bits(res.faults);
+    let Some(s) = res.interval else {
+        return Reply::Never(bits);
+    };
+    out[0] = s.lo;
+    out[1] = s.hi;
+    Reply::Spread(bits)
 }
 
-// The operation on what lies between two pairs of bounds.
-fn calculate(op: u64, first: (u64, u64), second: (u64, u64), out: &mut [u64]) -> Reply
-    ensures { SpanSays op first.0 first.1 second.0 second.1 out.old
-        (refusal op first.0 first.1 second.0 second.1 out.old) result out.new }
+// The operation on what lies between two pairs of bounds, if the result has room in the slice.
+fn calculate(
+    op: u64,
+    first: (u64, u64),
+    second: (u64, u64),
+    out: &[u64],
+) -> Result<EvalResult, Refusal>
+    ensures { Calculated op first.0 first.1 second.0 second.1 (refusal op first.0 first.1 second.0 second.1 out.now) result }
 {
     if op >= OPERATIONS {
-        return Reply::Refused(1);
+        return Err(Refusal::Operation);
     }
-    let Some(s) = Interval::new(first.0, first.1) else {
-        return Reply::Refused(2);
-    };
-    let Some(t) = Interval::new(second.0, second.1) else {
-        return Reply::Refused(2);
-    };
+    let s = Interval::new(first.0, first.1).ok_or(Refusal::Bounds)?;
+    let t = Interval::new(second.0, second.1).ok_or(Refusal::Bounds)?;
     if out.len() < PLACES {
-        return Reply::Refused(3);
+        return Err(Refusal::Room);
     }
-    put_result(Interval::apply(op, s, t), out)
+    Ok(Interval::apply(Operator::from(op), s, t))
 }
 
 // The operation on what lies from `a` to `b` and from `c` to `d`.
 pub fn reckon(op: u64, a: u64, b: u64, c: u64, d: u64, out: &mut [u64]) -> Reply
     ensures { SpanSays op a b c d out.old (refusal op a b c d out.old) result out.new }
 {
-    calculate(op, (a, b), (c, d), out)
+    match calculate(op, (a, b), (c, d), out) {
+        Ok(r) => put_result(r, out),
+        Err(refusal) => Reply::Refused(refusal.number()),
+    }
 }
 
 // The smaller of two counts.
 pub fn smaller_of(a: u64, b: u64) -> u64
     ensures { result ≡ smaller_of a b }
 {
-    if a < b { a } else { b }
+    a.min(b)
 }

@@ -2,29 +2,39 @@
 use Rattle.std.proofs.Common.{arith}
 use Rattle.std.proofs.lemmas.Bool.Decides.{nat_tests}
 use Rattle.interval.specs.Entry.{refusal}
-use Rattle.interval.proofs.Reckoning.{says_refused, says_result}
+use Rattle.interval.proofs.Reckoning.{bounds_refused}
+use Rattle.interval.proofs.Operators.{operation_of}
 use Rattle.interval.proofs.calculate.Goals as goal
 
 pub returns-then-op-ge-OPERATIONS : goal.returns-then-op-ge-OPERATIONS
 unfolding refusal
-returns-then-op-ge-OPERATIONS c = says_refused _ _ _ _ _ _ 0 (grind (arith, nat_tests))
+returns-then-op-ge-OPERATIONS c = grind (arith, nat_tests)
 
-pub returns-in_default : goal.returns-in_default
+pub returns-in_err-s : goal.returns-in_err-s
 unfolding refusal
-returns-in_default c = let no = c.in_default.ensures in says_refused _ _ _ _ _ _ 1 (grind (arith, nat_tests))
+returns-in_err-s c =
+    let no = rw c.in_err-s.ensures.ok_part at c.new.ensures in
+    bounds_refused c.args.op c.args.first.0 c.args.first.1 c.args.second.0 c.args.second.1 _ c.from_residual.result _ c.from_residual.ensures.1
+    (rw c.in_err-s.ensures.ok_part at c.in_err-s.ensures.value) (grind (arith, nat_tests))
 
-pub returns-in_default-new : goal.returns-in_default-new
+pub returns-in_err-t : goal.returns-in_err-t
 unfolding refusal
-returns-in_default-new c = let no = c.in_default-new.ensures in says_refused _ _ _ _ _ _ 1 (grind (arith, nat_tests))
+returns-in_err-t c =
+    let s = rw c.in_ok-s.ensures.ok_part at c.new.ensures in
+    let no = rw c.in_err-t.ensures.ok_part at c.new-2.ensures in
+    bounds_refused c.args.op c.args.first.0 c.args.first.1 c.args.second.0 c.args.second.1 _ c.from_residual-in_err-t.result _ c.from_residual-in_err-t.ensures.1
+    (rw c.in_err-t.ensures.ok_part at c.in_err-t.ensures.value) (grind (arith, nat_tests))
 
 pub returns-then-out-lt-PLACES : goal.returns-then-out-lt-PLACES
 unfolding refusal
 returns-then-out-lt-PLACES c =
-    let s = c.in-Some.ensures in let t = c.in-Some-new.ensures in says_refused _ _ _ _ _ _ 2 (grind (arith, nat_tests))
+    let s = rw c.in_ok-s.ensures.ok_part at c.new.ensures in
+    let t = rw c.in_ok-t.ensures.ok_part at c.new-2.ensures in
+    grind (arith, nat_tests)
 
 pub returns : goal.returns
 unfolding refusal
 returns c =
-    let s = c.in-Some.ensures in
-    let t = c.in-Some-new.ensures in
-    says_result _ _ _ _ _ _ _ _ (grind (arith, nat_tests)) (c.put_result.ensures _ (rw (← s.0, ← s.1, ← t.0, ← t.1) c.apply.ensures))
+    let s = rw c.in_ok-s.ensures.ok_part at c.new.ensures in
+    let t = rw c.in_ok-t.ensures.ok_part at c.new-2.ensures in
+    (grind (arith, nat_tests), rw (operation_of c.args.op _ _, ← c.from.ensures, ← s.0, ← s.1, ← t.0, ← t.1) c.apply.ensures)

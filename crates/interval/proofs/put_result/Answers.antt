@@ -2,10 +2,9 @@
 use Rattle.interval.proofs.Reckoning.{replies_value, replies_never}
 use Rattle.interval.proofs.put_result.Goals as goal
 
-pub returns-in-Value : goal.returns-in-Value
-returns-in-Value c w h =
-    replies_value c.in-Value.s c.in-Value.f w c.args.out.now c.fault_bits.result (rw c.in-Value.is at h) c.requires c.fault_bits.ensures
+pub returns-in_default : goal.returns-in_default
+returns-in_default c w h = replies_never c.args.res w c.args.out.now c.fault_bits-bits.result c.in_default.is h c.fault_bits-bits.ensures
 
-pub returns-in-Never : goal.returns-in-Never
-returns-in-Never c w h =
-    replies_never c.in-Never.f w c.args.out.now c.fault_bits-in-Never.result (rw c.in-Never.is at h) c.fault_bits-in-Never.ensures
+pub returns : goal.returns
+returns c w h =
+    replies_value c.in-Some.s c.args.res w c.args.out.now c.fault_bits-bits.result c.in-Some.is h c.requires c.fault_bits-bits.ensures

@@ -22,7 +22,8 @@ pub returns-in-1 : goal.returns-in-1
 returns-in-1 t c e ready =
     let h = variable_at _ _ e ready.stands c.in-1.is in
     record {
-      result = variable_says _ _ _ _ e h c.byte_at.result c.variable.result c.none.result c.byte_at.ensures c.variable.ensures c.none.ensures;
+      result = variable_says _ _ _ _ e h c.byte_at.result c.variable.result c.value.result c.byte_at.ensures c.variable.ensures
+          c.value.ensures.interval (rw c.value.ensures.faults c.none.ensures);
       end = omega (arith, expr_within _ _ _ e ready, h.long, c.saturating_add-next.ensures);
     }
 
@@ -34,7 +35,7 @@ returns-in-2 t c e ready =
     let mid : c.eval_from-a.result.end ≡ c.args.pos + 2 + length (encode_expr h.a) = omega (arith, a.end, next) in
     let b = c.eval_from-b.ensures h.b (right_ready _ _ _ e ready h _ mid) in
     record {
-      result = binary_says _ _ _ _ e h c.byte_at-in-2.result _ c.byte_at-in-2.ensures (c.combine.ensures _ _ a.result b.result);
+      result = binary_says _ _ _ _ e h c.byte_at-in-2.result c.from.result _ c.byte_at-in-2.ensures c.from.ensures (c.combine.ensures _ _ a.result b.result);
       end = omega (arith, h.long, mid, b.end);
     }
 

@@ -24,7 +24,7 @@ pub returns-in-2 : goal.returns-in-2
 returns-in-2 m c t ready =
     let h = not_at _ _ t ready.stands c.in-2.is in
     let a = c.test_from.ensures h.t (inner_ready _ _ _ t ready h) in
-    split_same _ _ _ t _ _ _ (sym h.is) (omega (arith, h.long)) (split_not _ _ h.t _ c.test_from.new.ways a)
+    split_same _ _ _ t _ _ _ (sym h.is) (omega (arith, h.long)) (split_not _ _ h.t _ c.test_from.new.ways _ _ a c.swap.ensures.x_after c.swap.ensures.y_after)
 
 pub returns-in-3 : goal.returns-in-3
 returns-in-3 m c t ready =
