@@ -5,8 +5,8 @@ use Rattle.std.specs.List.{AllByRecursion as All}
 use Rattle.program.specs.Basics.{filter, limit}
 use Rattle.encoding.specs.Standing.{Stands}
 use Rattle.encoding.proofs.Standing.{stands_within}
-use Rattle.thresholds.specs.declared.found.Found.{Found}
-use Rattle.thresholds.specs.Collecting.{small, Low, Room, Ready, Written, Collects, Walk}
+use Rattle.thresholds.specs.declared.table.Collector.{Collector}
+use Rattle.thresholds.specs.Collecting.{small, Low, SameLoans, Room, Ready, Written, Writes, Collects, Walk}
 
 -- filtering part by part, where one more passes or not
 filter_more : {A : Type 0} (b : Bool) (x : A) (xs ys zs : List A) → zs ≡ xs ++ ys → cond b (x ∷ zs) zs ≡ cond b (x ∷ xs) xs ++ ys
@@ -37,102 +37,120 @@ all_right P [] ys h = h
 all_right P (x ∷ xs) ys h = all_right P xs ys h.1
 
 -- nothing yet
-pub written_none : (T : List ℕ) (c : ℕ) → Written [] T c T c
-written_none T c = record { writes = refl; counts = omega arith }
+pub written_none : (c : Collector) → Written [] c c
+written_none c = record { writes = refl; counts = omega arith }
 
 -- more behind what is there
-pub written_two : (xs ys T T₁ T₂ : List ℕ) (c c₁ c₂ : ℕ) → Written xs T c T₁ c₁ → Written ys T₁ c₁ T₂ c₂ → Written (xs ++ ys) T c T₂ c₂
-written_two xs ys T T₁ T₂ c c₁ c₂ h g =
+pub written_two : (xs ys : List ℕ) (c c₁ c₂ : Collector) → Written xs c c₁ → Written ys c₁ c₂ → Written (xs ++ ys) c c₂
+written_two xs ys c c₁ c₂ h g =
+    let T = c.slots.now in
     record {
-      writes = g.writes ∙ ap (λ (l : List ℕ). sets l c₁ (small ys)) h.writes ∙ ap (λ (k : ℕ). sets (sets T c (small xs)) k (small ys)) h.counts
-          ∙ sets_append T c (small xs) (small ys) ∙ ap (λ (l : List ℕ). sets T c l) (sym (small_append xs ys));
+      writes = g.writes ∙ ap (λ (l : List ℕ). sets l c₁.count (small ys)) h.writes ∙ ap (λ (k : ℕ). sets (sets T c.count (small xs)) k (small ys)) h.counts
+          ∙ sets_append T c.count (small xs) (small ys) ∙ ap (λ (l : List ℕ). sets T c.count l) (sym (small_append xs ys));
       counts = omega (arith, g.counts, h.counts, length_small xs ys);
     }
 
 -- the table keeps its length
-pub written_length : (xs T T₁ : List ℕ) (c c₁ : ℕ) → Written xs T c T₁ c₁ → length T₁ ≡ length T
-written_length xs T T₁ c c₁ h = ap length h.writes ∙ length-sets T c (small xs)
+pub written_length : (xs : List ℕ) (c c₁ : Collector) → Written xs c c₁ → length c₁.slots.now ≡ length c.slots.now
+written_length xs c c₁ h = ap length h.writes ∙ length-sets c.slots.now c.count (small xs)
+
+-- those that fit are written, and then others
+pub writes_two : (xs ys : List ℕ) (c c₁ c₂ : Collector) → Writes xs c c₁ → Writes ys c₁ c₂ → Writes (xs ++ ys) c c₂
+writes_two xs ys c c₁ c₂ h g f =
+    let k = length_small xs ys in
+    let w = h (omega (arith, f, k)) in
+    written_two xs ys c c₁ c₂ w (g (omega (arith, f, k, w.counts, written_length xs c c₁ w)))
 
 -- there is room for the first
-room_left : (xs ys T : List ℕ) (c : ℕ) → Room (xs ++ ys) T c → Room xs T c
-room_left xs ys T c h = record { low = all_left Low xs ys h.low; fits = omega (arith, h.fits, length_small xs ys) }
+room_left : (xs ys : List ℕ) (c : Collector) → Room (xs ++ ys) c → Room xs c
+room_left xs ys c h = record { low = all_left Low xs ys h.low; fits = omega (arith, h.fits, length_small xs ys) }
 
 -- behind those that are written there is room for the others
-room_right : (xs ys T T₁ : List ℕ) (c c₁ : ℕ) → Room (xs ++ ys) T c → Written xs T c T₁ c₁ → Room ys T₁ c₁
-room_right xs ys T T₁ c c₁ h w =
-    record { low = all_right Low xs ys h.low; fits = omega (arith, h.fits, length_small xs ys, w.counts, written_length xs T T₁ c c₁ w) }
+room_right : (xs ys : List ℕ) (c c₁ : Collector) → Room (xs ++ ys) c → Written xs c c₁ → Room ys c₁
+room_right xs ys c c₁ h w =
+    record { low = all_right Low xs ys h.low; fits = omega (arith, h.fits, length_small xs ys, w.counts, written_length xs c c₁ w) }
+
+-- the loans stay the same from call to call
+pub same_two : (c c₁ c₂ : Collector) → SameLoans c c₁ → SameLoans c₁ c₂ → SameLoans c c₂
+same_two c c₁ c₂ h g = record { text = g.text ∙ h.text; table = g.table ∙ h.table }
+
+-- what stands in the text stands in it still
+stands_same : (c c₁ : Collector) (p : ℕ) (bs : List ℕ) → SameLoans c c₁ → Stands c.text.now p bs → Stands c₁.text.now p bs
+stands_same c c₁ p bs h s = subst (λ (t : List ℕ). Stands t p bs) (sym (λ i. (h.text i).now)) s
 
 -- a walk that has come to stop goes on over what stands there
-pub further : (text T T₁ T₂ : List ℕ) (c left stop : ℕ) (r₁ r₂ : Found) (xs bs ys : List ℕ) → Collects xs stop T c T₁ r₁ → Room (xs ++ ys) T c →
-    Stands text stop bs → length bs ≤ left →
-    (Ready text r₁.end left T₁ r₁.count bs ys → Collects ys (r₁.end + length bs) T₁ r₁.count T₂ r₂) →
-    Collects (xs ++ ys) (stop + length bs) T c T₂ r₂
-further text T T₁ T₂ c left stop r₁ r₂ xs bs ys h room s l walk =
-    let m = room_right xs ys T T₁ c r₁.count room h.written in
-    let g = walk (record { stands = subst (λ (p : ℕ). Stands text p bs) (sym h.stops) s; enough = l; room = m }) in
-    record { written = written_two xs ys T T₁ T₂ c r₁.count r₂.count h.written g.written; stops = omega (arith, g.stops, h.stops) }
+pub further : (c c₁ c₂ : Collector) (left stop end₁ end₂ : ℕ) (xs bs ys : List ℕ) → SameLoans c c₁ → Collects xs stop c c₁ end₁ → Room (xs ++ ys) c →
+    Stands c.text.now stop bs → length bs ≤ left → Walk c₁ end₁ left c₂ end₂ bs ys → Collects (xs ++ ys) (stop + length bs) c c₂ end₂
+further c c₁ c₂ left stop end₁ end₂ xs bs ys same h room s l walk =
+    let m = room_right xs ys c c₁ room h.written in
+    let g = walk (record { stands = stands_same c c₁ end₁ bs same (subst (λ (p : ℕ). Stands c.text.now p bs) (sym h.stops) s); enough = l; room = m }) in
+    record { written = written_two xs ys c c₁ c₂ h.written g.written; stops = omega (arith, g.stops, h.stops) }
 
 -- a walk over the first byte, or the first bytes
-begun : (T : List ℕ) (c stop p : ℕ) → p ≡ stop → Collects [] stop T c T (record { end = p; count = c })
-begun T c stop p e = record { written = written_none T c; stops = e }
+begun : (c : Collector) (stop p : ℕ) → p ≡ stop → Collects [] stop c c p
+begun c stop p e = record { written = written_none c; stops = e }
 
 -- it has collected those of the whole, and is behind it
-ended : (T T₁ : List ℕ) (c stop stop₁ : ℕ) (r : Found) (xs ms : List ℕ) → ms ≡ xs → stop ≡ stop₁ → Collects xs stop T c T₁ r → Collects ms stop₁ T c T₁ r
-ended T T₁ c stop stop₁ r xs ms e l h = record { written = subst (λ (ys : List ℕ). Written ys T c T₁ r.count) (sym e) h.written; stops = h.stops ∙ l }
+ended : (c c₁ : Collector) (stop stop₁ end : ℕ) (xs ms : List ℕ) → ms ≡ xs → stop ≡ stop₁ → Collects xs stop c c₁ end → Collects ms stop₁ c c₁ end
+ended c c₁ stop stop₁ end xs ms e l h = record { written = subst (λ (ys : List ℕ). Written ys c c₁) (sym e) h.written; stops = h.stops ∙ l }
+
+-- nothing was changed
+same_refl : (c : Collector) → SameLoans c c
+same_refl c = record { text = refl; table = refl }
 
 -- k bytes without thresholds
-pub no_part : (text T : List ℕ) (pos left c k p : ℕ) (bs ms : List ℕ) → Ready text pos left T c bs ms → p ≡ pos + k → length bs ≡ k → ms ≡ [] → Collects ms (pos + length bs) T c T (record { end = p; count = c })
-no_part text T pos left c k p bs ms h e l i = ended T T c (pos + k) (pos + length bs) (record { end = p; count = c }) [] ms i (omega arith) (begun T c (pos + k) p e)
+pub no_part : (c : Collector) (pos left k p : ℕ) (bs ms : List ℕ) → Ready c pos left bs ms → p ≡ pos + k → length bs ≡ k → ms ≡ [] → Collects ms (pos + length bs) c c p
+no_part c pos left k p bs ms h e l i = ended c c (pos + k) (pos + length bs) p [] ms i (omega arith) (begun c (pos + k) p e)
 
 -- k bytes with thresholds of their own
-pub leaf : (text T T₁ : List ℕ) (pos left c k p c₁ : ℕ) (bs ms xs : List ℕ) → Ready text pos left T c bs ms → p ≡ pos + k → length bs ≡ k → ms ≡ xs →
-    (c + length (small xs) ≤ length T → Written xs T c T₁ c₁) → Collects ms (pos + length bs) T c T₁ (record { end = p; count = c₁ })
-leaf text T T₁ pos left c k p c₁ bs ms xs h e l i write =
-    let m = subst (λ (ys : List ℕ). Room ys T c) i h.room in
-    record { written = subst (λ (ys : List ℕ). Written ys T c T₁ c₁) (sym i) (write m.fits); stops = omega arith }
+pub leaf : (c c₁ : Collector) (pos left k p : ℕ) (bs ms xs : List ℕ) → Ready c pos left bs ms → p ≡ pos + k → length bs ≡ k → ms ≡ xs →
+    Writes xs c c₁ → Collects ms (pos + length bs) c c₁ p
+leaf c c₁ pos left k p bs ms xs h e l i write =
+    let m = subst (λ (ys : List ℕ). Room ys c) i h.room in
+    record { written = subst (λ (ys : List ℕ). Written ys c c₁) (sym i) (write m.fits); stops = omega arith }
 
 -- k bytes and one part
-pub one_part : (text T T₁ : List ℕ) (pos left c k p : ℕ) (r : Found) (bs ms as₁ xs : List ℕ) → Ready text pos left T c bs ms → p ≡ pos + k → 0 < k →
-    length bs ≡ k + length as₁ → ms ≡ xs → Stands text (pos + k) as₁ → Walk text p (left - 1) T c T₁ r as₁ xs → Collects ms (pos + length bs) T c T₁ r
-one_part text T T₁ pos left c k p r bs ms as₁ xs h e k0 l i s walk =
-    let m = subst (λ (ys : List ℕ). Room ys T c) i h.room in
-    let one = further text T T T₁ c (left - 1) (pos + k) (record { end = p; count = c }) r [] as₁ xs (begun T c (pos + k) p e) m s (omega (arith, h.enough)) walk in
-    ended T T₁ c (pos + k + length as₁) (pos + length bs) r xs ms i (omega arith) one
+pub one_part : (c c₁ : Collector) (pos left k p end : ℕ) (bs ms as₁ xs : List ℕ) → Ready c pos left bs ms → p ≡ pos + k → 0 < k →
+    length bs ≡ k + length as₁ → ms ≡ xs → Stands c.text.now (pos + k) as₁ → Walk c p (left - 1) c₁ end as₁ xs → Collects ms (pos + length bs) c c₁ end
+one_part c c₁ pos left k p end bs ms as₁ xs h e k0 l i s walk =
+    let m = subst (λ (ys : List ℕ). Room ys c) i h.room in
+    let one = further c c c₁ (left - 1) (pos + k) p end [] as₁ xs (same_refl c) (begun c (pos + k) p e) m s (omega (arith, h.enough)) walk in
+    ended c c₁ (pos + k + length as₁) (pos + length bs) end xs ms i (omega arith) one
 
 -- k bytes and two parts
-pub two_parts : (text T T₁ T₂ : List ℕ) (pos left c k p : ℕ) (r r₁ : Found) (bs ms as₁ xs cs ys : List ℕ) → Ready text pos left T c bs ms → p ≡ pos + k → 0 < k →
-    length bs ≡ k + length as₁ + length cs → ms ≡ xs ++ ys → Stands text (pos + k) as₁ → Stands text (pos + k + length as₁) cs →
-    Walk text p (left - 1) T c T₁ r as₁ xs → Walk text r.end (left - 1) T₁ r.count T₂ r₁ cs ys → Collects ms (pos + length bs) T c T₂ r₁
-two_parts text T T₁ T₂ pos left c k p r r₁ bs ms as₁ xs cs ys h e k0 l i s t walk walk₁ =
-    let m = subst (λ (zs : List ℕ). Room zs T c) i h.room in
-    let one = further text T T T₁ c (left - 1) (pos + k) (record { end = p; count = c }) r [] as₁ xs (begun T c (pos + k) p e) (room_left xs ys T c m) s (omega (arith, h.enough)) walk in
-    let two = further text T T₁ T₂ c (left - 1) (pos + k + length as₁) r r₁ xs cs ys one m t (omega (arith, h.enough)) walk₁ in
-    ended T T₂ c (pos + k + length as₁ + length cs) (pos + length bs) r₁ (xs ++ ys) ms i (omega arith) two
+pub two_parts : (c c₁ c₂ : Collector) (pos left k p end₁ end₂ : ℕ) (bs ms as₁ xs cs ys : List ℕ) → Ready c pos left bs ms → p ≡ pos + k → 0 < k →
+    length bs ≡ k + length as₁ + length cs → ms ≡ xs ++ ys → Stands c.text.now (pos + k) as₁ → Stands c.text.now (pos + k + length as₁) cs →
+    SameLoans c c₁ → Walk c p (left - 1) c₁ end₁ as₁ xs → Walk c₁ end₁ (left - 1) c₂ end₂ cs ys → Collects ms (pos + length bs) c c₂ end₂
+two_parts c c₁ c₂ pos left k p end₁ end₂ bs ms as₁ xs cs ys h e k0 l i s t same walk walk₁ =
+    let m = subst (λ (zs : List ℕ). Room zs c) i h.room in
+    let one = further c c c₁ (left - 1) (pos + k) p end₁ [] as₁ xs (same_refl c) (begun c (pos + k) p e) (room_left xs ys c m) s (omega (arith, h.enough)) walk in
+    let two = further c c₁ c₂ (left - 1) (pos + k + length as₁) end₁ end₂ xs cs ys same one m t (omega (arith, h.enough)) walk₁ in
+    ended c c₂ (pos + k + length as₁ + length cs) (pos + length bs) end₂ (xs ++ ys) ms i (omega arith) two
 
 -- k bytes and three parts
-pub three_parts : (text T T₁ T₂ T₃ : List ℕ) (pos left c k p : ℕ) (r r₁ r₂ : Found) (bs ms as₁ xs cs ys ds zs : List ℕ) → Ready text pos left T c bs ms → p ≡ pos + k → 0 < k →
+pub three_parts : (c c₁ c₂ c₃ : Collector) (pos left k p end₁ end₂ end₃ : ℕ) (bs ms as₁ xs cs ys ds zs : List ℕ) → Ready c pos left bs ms → p ≡ pos + k → 0 < k →
     length bs ≡ k + length as₁ + length cs + length ds → ms ≡ xs ++ ys ++ zs →
-    Stands text (pos + k) as₁ → Stands text (pos + k + length as₁) cs → Stands text (pos + k + length as₁ + length cs) ds →
-    Walk text p (left - 1) T c T₁ r as₁ xs → Walk text r.end (left - 1) T₁ r.count T₂ r₁ cs ys → Walk text r₁.end (left - 1) T₂ r₁.count T₃ r₂ ds zs →
-    Collects ms (pos + length bs) T c T₃ r₂
-three_parts text T T₁ T₂ T₃ pos left c k p r r₁ r₂ bs ms as₁ xs cs ys ds zs h e k0 l i s t u walk walk₁ walk₂ =
-    let m = subst (λ (vs : List ℕ). Room vs T c) i h.room in
-    let n = room_left (xs ++ ys) zs T c m in
-    let one = further text T T T₁ c (left - 1) (pos + k) (record { end = p; count = c }) r [] as₁ xs (begun T c (pos + k) p e) (room_left xs ys T c n) s (omega (arith, h.enough)) walk in
-    let two = further text T T₁ T₂ c (left - 1) (pos + k + length as₁) r r₁ xs cs ys one n t (omega (arith, h.enough)) walk₁ in
-    let three = further text T T₂ T₃ c (left - 1) (pos + k + length as₁ + length cs) r₁ r₂ (xs ++ ys) ds zs two m u (omega (arith, h.enough)) walk₂ in
-    ended T T₃ c (pos + k + length as₁ + length cs + length ds) (pos + length bs) r₂ (xs ++ ys ++ zs) ms i (omega arith) three
+    Stands c.text.now (pos + k) as₁ → Stands c.text.now (pos + k + length as₁) cs → Stands c.text.now (pos + k + length as₁ + length cs) ds →
+    SameLoans c c₁ → SameLoans c₁ c₂ → Walk c p (left - 1) c₁ end₁ as₁ xs → Walk c₁ end₁ (left - 1) c₂ end₂ cs ys → Walk c₂ end₂ (left - 1) c₃ end₃ ds zs →
+    Collects ms (pos + length bs) c c₃ end₃
+three_parts c c₁ c₂ c₃ pos left k p end₁ end₂ end₃ bs ms as₁ xs cs ys ds zs h e k0 l i s t u same same₁ walk walk₁ walk₂ =
+    let m = subst (λ (vs : List ℕ). Room vs c) i h.room in
+    let n = room_left (xs ++ ys) zs c m in
+    let one = further c c c₁ (left - 1) (pos + k) p end₁ [] as₁ xs (same_refl c) (begun c (pos + k) p e) (room_left xs ys c n) s (omega (arith, h.enough)) walk in
+    let two = further c c₁ c₂ (left - 1) (pos + k + length as₁) end₁ end₂ xs cs ys same one n t (omega (arith, h.enough)) walk₁ in
+    let three = further c c₂ c₃ (left - 1) (pos + k + length as₁ + length cs) end₂ end₃ (xs ++ ys) ds zs (same_two c c₁ c₂ same same₁) two m u (omega (arith, h.enough)) walk₂ in
+    ended c c₃ (pos + k + length as₁ + length cs + length ds) (pos + length bs) end₃ (xs ++ ys ++ zs) ms i (omega arith) three
 
 -- where something stands, there are bytes left and the text goes on
-pub inside : (text T : List ℕ) (pos left c : ℕ) (bs ms : List ℕ) → Ready text pos left T c bs ms → 0 < length bs → (0 < left) × (pos + length bs ≤ length text)
-inside text T pos left c [] ms h l = absurd (omega arith)
-inside text T pos left c (b ∷ bs) ms h l = (omega (arith, h.enough), stands_within text pos b bs h.stands)
+pub inside : (c : Collector) (pos left : ℕ) (bs ms : List ℕ) → Ready c pos left bs ms → 0 < length bs → (0 < left) × (pos + length bs ≤ length c.text.now)
+inside c pos left [] ms h l = absurd (omega arith)
+inside c pos left (b ∷ bs) ms h l = (omega (arith, h.enough), stands_within c.text.now pos b bs h.stands)
 
 -- so no walk over something ends for want of bytes
-pub nowhere : (text T T₁ : List ℕ) (pos left c : ℕ) (r : Found) (bs ms : List ℕ) → Ready text pos left T c bs ms → 0 < length bs →
-    (left ≡ 0) ⊎ ((left ≡ 0 → ⊥) × (length text ≤ pos)) → Collects ms (pos + length bs) T c T₁ r
-nowhere text T T₁ pos left c r bs ms h l e = let i = inside text T pos left c bs ms h l in absurd (omega (arith, i, e))
+pub nowhere : (c c₁ : Collector) (pos left end : ℕ) (bs ms : List ℕ) → Ready c pos left bs ms → 0 < length bs →
+    (left ≡ 0) ⊎ (length c.text.now ≤ pos) → Collects ms (pos + length bs) c c₁ end
+nowhere c c₁ pos left end bs ms h l e = let i = inside c pos left bs ms h l in absurd (omega (arith, i, e))
 
 -- nor because it stands for nothing
-pub astray : (T T₁ ms : List ℕ) (c stop : ℕ) (r : Found) → ⊥ → Collects ms stop T c T₁ r
-astray T T₁ ms c stop r h = absurd h
+pub astray : (c c₁ : Collector) (ms : List ℕ) (stop end : ℕ) → ⊥ → Collects ms stop c c₁ end
+astray c c₁ ms stop end h = absurd h

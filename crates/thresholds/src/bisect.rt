@@ -6,26 +6,17 @@ ghost use Rattle.interval.specs.Of.{as_interval};
 ghost use Rattle.thresholds.specs.Nearest.{IsAbove, IsBelow};
 
 use interval::Interval;
+use program::LIMIT;
 
 // The largest number.
-const TOP: u64 = 4294967295;
+const TOP: u64 = LIMIT - 1;
 
 // The threshold above in an ascending list; in another any number.
 fn find_above(n: u64, sorted: &[u64]) -> u64
     ensures { IsNonDecreasing sorted.now → IsAbove n sorted.now result }
 {
-    if n >= TOP {
-        return TOP;
-    }
-    match sorted.binary_search(&n) {
-        Ok(_) => n,
-        Err(i) => {
-            if i < sorted.len() && sorted[i] < TOP {
-                return sorted[i];
-            }
-            TOP
-        }
-    }
+    let i = sorted.partition_point(|m| *m < n);
+    sorted.get(i).copied().unwrap_or(TOP).min(TOP)
 }
 
 // The least threshold that is n or more, or the largest number.
@@ -34,26 +25,15 @@ pub fn above(n: u64, sorted: &[u64]) -> u64
     ensures small { result ≤ 4294967295 }
     ensures reaches { n ≤ 4294967295 → n ≤ result }
 {
-    let m = find_above(n, sorted);
-    if n <= m && m <= TOP {
-        return m;
-    }
-    TOP
+    find_above(n, sorted).max(n).min(TOP)
 }
 
 // The threshold below in an ascending list; in another any number.
 fn find_below(n: u64, sorted: &[u64]) -> u64
     ensures { IsNonDecreasing sorted.now → IsBelow n sorted.now result }
 {
-    match sorted.binary_search(&n) {
-        Ok(_) => n,
-        Err(i) => {
-            if i > 0 {
-                return sorted[i - 1];
-            }
-            0
-        }
-    }
+    let i = sorted.partition_point(|m| *m <= n);
+    sorted[..i].last().copied().unwrap_or(0)
 }
 
 // The greatest threshold that is n or less, or 0.
@@ -61,24 +41,23 @@ pub fn below(n: u64, sorted: &[u64]) -> u64
     ensures exact { IsNonDecreasing sorted.now → result ≡ threshold_below n sorted.now }
     ensures small { result ≤ n }
 {
-    let m = find_below(n, sorted);
-    if m <= n {
-        return m;
-    }
-    0
+    find_below(n, sorted).min(n)
 }
 
 // The interval a, where a bound that b passes goes on to the next threshold.
 pub fn widen(a: Interval, b: Interval, sorted: &[u64]) -> Interval
     ensures { IsNonDecreasing sorted.now → as_interval result ≡ widen_interval sorted.now (as_interval a) (as_interval b) }
 {
-    let mut lo = a.lo;
-    if b.lo < lo {
-        lo = below(b.lo, sorted);
+    Interval {
+        lo: if b.lo < a.lo {
+            below(b.lo, sorted)
+        } else {
+            a.lo
+        },
+        hi: if a.hi < b.hi {
+            above(b.hi, sorted)
+        } else {
+            a.hi
+        },
     }
-    let mut hi = a.hi;
-    if hi < b.hi {
-        hi = above(b.hi, sorted);
-    }
-    Interval { lo, hi }
 }

@@ -5,7 +5,6 @@
 ghost use Rattle.thresholds.specs.Statements.{FewThresholds};
 
 mod bisect;
-mod found;
 mod table;
 mod walk;
 mod whole;

@@ -1,33 +1,46 @@
-// Thresholds put into a table, one behind the other.
-ghost use Rattle.std.specs.Prelude.{suc, ◌+◌, ◌-◌, ◌≤◌, [], ◌∷◌, length};
-ghost use Rattle.thresholds.specs.Collecting.{small, Written};
+// A text and the thresholds collected from it, one behind the other in a table.
+ghost use Rattle.std.specs.Prelude.{suc, ◌-◌, ◌≤◌, [], ◌∷◌, length};
 
-// Numbers are below this.
-const LIMIT: u64 = 4294967296;
+use program::LIMIT;
 
-// The threshold is put behind those before it, if it is a number.
-fn keep(m: u64, out: &mut [u64], count: usize) -> usize
-    ensures { count + length (small (m ∷ [])) ≤ length out.old → Written (m ∷ []) out.old count out.new result }
-{
-    if m < LIMIT && count < out.len() {
-        out[count] = m;
-        return count + 1;
+/// A text that is walked over, and a table whose first `count` slots hold the thresholds so far.
+#[derive(Drop)]
+pub struct Collector<'a> {
+    pub text: &'a [u8],
+    pub slots: &'a mut [u64],
+    pub count: usize,
+    ghost within: { count ≤ length slots.now },
+}
+
+impl<'a> Collector<'a> {
+    ghost use Rattle.thresholds.specs.Collecting.{SameLoans, Writes};
+
+    // The threshold is put behind those before it, if it is a number.
+    fn push(&mut self, m: u64)
+        ensures same { SameLoans self.old self.new }
+        ensures writes { Writes (m ∷ []) self.old self.new }
+    {
+        if m < LIMIT && self.count < self.slots.len() {
+            self.slots[self.count] = m;
+            self.count += 1;
+        }
     }
-    count
-}
 
-// Two thresholds, one after the other.
-pub fn keep_two(m: u64, n: u64, out: &mut [u64], count: usize) -> usize
-    ensures { count + length (small (m ∷ n ∷ [])) ≤ length out.old → Written (m ∷ n ∷ []) out.old count out.new result }
-{
-    let first = keep(m, out, count);
-    keep(n, out, first)
-}
+    // Two thresholds, one after the other.
+    pub fn push_two(&mut self, m: u64, n: u64)
+        ensures same { SameLoans self.old self.new }
+        ensures writes { Writes (m ∷ n ∷ []) self.old self.new }
+    {
+        self.push(m);
+        self.push(n);
+    }
 
-// A number of the program and those beside it.
-pub fn keep_around(n: u64, out: &mut [u64], count: usize) -> usize
-    ensures { count + length (small ((n - 1) ∷ n ∷ suc n ∷ [])) ≤ length out.old → Written ((n - 1) ∷ n ∷ suc n ∷ []) out.old count out.new result }
-{
-    let two = keep_two(n.saturating_sub(1), n, out, count);
-    keep(n.saturating_add(1), out, two)
+    // A number of the program and those beside it.
+    pub fn push_around(&mut self, n: u64)
+        ensures same { SameLoans self.old self.new }
+        ensures writes { Writes ((n - 1) ∷ n ∷ suc n ∷ []) self.old self.new }
+    {
+        self.push_two(n.saturating_sub(1), n);
+        self.push(n.saturating_add(1));
+    }
 }

@@ -1,5 +1,6 @@
+use Rattle.std.proofs.Common.{refl, rules}
 use Rattle.thresholds.proofs.Gathering.{gathers}
 use Rattle.thresholds.proofs.whole.gather.Goals as goal
 
-pub returns : goal.returns
-returns c d h = gathers _ _ _ _ _ _ _ _ d h (c.collect_stmt-found.ensures d) c.keep_lengths.ensures
+pub returns-clause-gathered : goal.returns-clause-gathered
+returns-clause-gathered c d h = gathers _ _ _ _ _ _ _ d refl (search rules) h (c.collect_stmt.ensures.walks d) c.push_lengths.ensures.writes

@@ -1,4 +1,4 @@
-use Rattle.thresholds.proofs.walk.+collect_stmt.Given as goal
+use Rattle.thresholds.proofs.table.Collector.+collect_stmt.Given as goal
 
 abbrev pub decreases-collect_stmt : goal.decreases-collect_stmt
 decreases-collect_stmt l = l.left

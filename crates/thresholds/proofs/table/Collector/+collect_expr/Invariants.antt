@@ -1,4 +1,4 @@
-use Rattle.thresholds.proofs.walk.+collect_expr.Given as goal
+use Rattle.thresholds.proofs.table.Collector.+collect_expr.Given as goal
 
 abbrev pub decreases-collect_expr : goal.decreases-collect_expr
 decreases-collect_expr l = l.left
