@@ -1,4 +1,4 @@
-// Tests printed from their bytes.
+// Tests printed from their bytes. The first byte is matched as a number, as that of an expression.
 ghost use Rattle.std.specs.Prelude.{OnOk};
 ghost use Rattle.printer.specs.Printing.{SidesPrinted, TestPrinted, TestsPrinted};
 

@@ -1,4 +1,4 @@
-// Expressions printed from their bytes.
+// Expressions printed from their bytes. The first byte is matched as a number: a type of kinds between would be a second match over the same numbers.
 ghost use Rattle.std.specs.Prelude.{◌≡◌, OnOk};
 ghost use Rattle.program.specs.Kinds.{operator_code};
 ghost use Rattle.printer.specs.Text.{sign_text};

@@ -2,9 +2,9 @@
 
 #![tactic(auto)]
 
-ghost use Rattle.std.specs.Prelude.{◌≡◌, IfOk, string_bytes};
+ghost use Rattle.std.specs.Prelude.{◌≡◌, Some, IfOk, string_bytes};
 ghost use Rattle.reader.specs.Request.{Loads};
-ghost use Rattle.printer.specs.Whole.{LoadedText, ProgramPrinted};
+ghost use Rattle.printer.specs.Whole.{LoadedText, ProgramPrinted, error_words};
 ghost use Rattle.printer.specs.declared.PrintError.TheVariants.{NoMemory};
 
 mod condition;
@@ -15,16 +15,34 @@ mod write;
 
 use reader::{Header, Request, read_command};
 use std::alloc::{AllocError, Global};
+use std::error::Error;
+use std::fmt;
 use valid::load_command;
 use write::Printer;
 
-// Why nothing was printed: there was no memory, or the bytes are no valid program.
-#[derive(Clone, Copy)]
+/// Why nothing was printed.
+#[derive(Clone, Copy, PartialEq, Eq, Debug)]
 pub enum PrintError {
+    /// There was no memory.
     NoMemory,
+    /// The bytes are no valid program.
     NoProgram,
 }
 
+impl fmt::Display for PrintError {
+    ghost output = { λ e. Some (error_words e) };
+
+    fn fmt<W: fmt::Write>(&self, f: &mut fmt::Formatter<W>) -> fmt::Result {
+        f.write_str(match self {
+            PrintError::NoMemory => "out of memory",
+            PrintError::NoProgram => "no program",
+        })
+    }
+}
+
+impl Error for PrintError {}
+
+// By hand, since a derived one doesn't tell callers which error a `?` gives.
 impl From<AllocError> for PrintError {
     ghost from_gives = { λ _ r. r ≡ NoMemory };
 

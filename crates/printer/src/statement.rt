@@ -1,4 +1,4 @@
-// Statements printed from their bytes, a line each.
+// Statements printed from their bytes, a line each. The first byte is matched as a number, as that of an expression.
 ghost use Rattle.std.specs.Prelude.{◌≡◌, ◌+◌, ◌^◌, ◌<◌, [], slice_index, OnOk};
 ghost use Rattle.printer.specs.Text.{deeper as deeper_level};
 ghost use Rattle.printer.specs.Printing.{Passes, StmtPrinted, BlockPrinted, FirstPrinted, ElsePrinted, AssignPrinted, StorePrinted, InputPrinted, CheckPrinted, BranchPrinted, LoopPrinted, head_size};
