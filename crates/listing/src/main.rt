@@ -15,7 +15,7 @@ fn list(rt: &HostRuntime, path: &str) -> anyhow::Result<()> {
     match print_program(heap, program.as_slice()) {
         Ok(text) => print!(rt; "{text}")?,
         Err(PrintError::NoProgram) => println!(rt; "{path} is no program")?,
-        Err(PrintError::NoMemory) => return Err(anyhow!("out of memory")),
+        Err(e) => return Err(e.into()),
     }
     Ok(())
 }

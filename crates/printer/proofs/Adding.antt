@@ -1,25 +1,25 @@
--- What is added to a text piece by piece. Rests on the definitions alone.
-use Rattle.std.proofs.Common.{◌≡◌, ℕ, List, [], ◌++◌, IfOk, Result, sym, ap, ◌∙◌, subst, append_assoc, append-nil}
-use Rattle.std.specs.declared.alloc.AllocError.{AllocError}
-use Rattle.std.proofs.lemmas.Result.{IfOk-weaker}
-use Rattle.printer.specs.Printing.{Adds}
+-- What is printed step by step. Rests on the definitions alone.
+use Rattle.std.proofs.Common.{◌≡◌, ℕ, ◌+◌, ◌^◌, ◌<◌, List, [], ◌++◌, string_bytes, sym, refl, ap, ◌∙◌, subst, append_assoc, append-nil, arith}
+use Rattle.printer.specs.declared.write.Printer.{Printer}
+use Rattle.printer.specs.Printing.{Prints, Passes, head_size}
 
--- one piece behind another
-pub also : {s t b b₁ b₂ : List ℕ} → Adds s b b₁ → Adds t b₁ b₂ → Adds (s ++ t) b b₂
-also {s} {t} {b} {b₁} {b₂} e f = record { is = f.is ∙ ap (λ (x : List ℕ). x ++ t) e.is ∙ append_assoc b s t }
+-- no step
+pub no_step : (a : Printer) → Prints 0 [] a a
+no_step a = record { text = refl; pos = omega arith; out = sym (append-nil (string_bytes a.out)) }
 
--- the same pieces
-pub same_pieces : {s t b b₁ : List ℕ} → Adds s b b₁ → s ≡ t → Adds t b b₁
-same_pieces {s} {t} {b} {b₁} e f = subst (λ (x : List ℕ). Adds x b b₁) f e
+-- one step behind another
+pub also : {m n : ℕ} {s t : List ℕ} {a b c : Printer} → Prints m s a b → Prints n t b c → Prints (m + n) (s ++ t) a c
+also {m} {n} {s} {t} {a} {b} {c} e f =
+    record {
+      text = f.text ∙ e.text;
+      pos = omega (arith, e.pos, f.pos);
+      out = f.out ∙ ap (λ (x : List ℕ). x ++ t) e.out ∙ append_assoc (string_bytes a.out) s t;
+    }
 
--- nothing
-pub none_added : (b : List ℕ) → Adds [] b b
-none_added b = record { is = sym (append-nil b) }
+-- the same steps
+pub same_steps : {m n : ℕ} {s t : List ℕ} {a b : Printer} → Prints m s a b → m ≡ n → s ≡ t → Prints n t a b
+same_steps {m} {n} {s} {t} {a} {b} e f g = record { text = e.text; pos = e.pos ∙ ap (λ (k : ℕ). a.pos + k) f; out = e.out ∙ ap (λ (x : List ℕ). string_bytes a.out ++ x) g }
 
--- what another function printed, for what stands around it
-pub then_made : (r : Result ℕ AllocError) (P Q : ℕ → Type 0) → IfOk r P → ((last : ℕ) → P last → Q last) → IfOk r Q
-then_made r P Q h f = IfOk-weaker r P Q f h
-
--- a last piece
-pub last_also : (s t b b₁ b₂ : List ℕ) (r : Result (Unit {0}) AllocError) → Adds s b b₁ → IfOk r (λ _. Adds t b₁ b₂) → IfOk r (λ _. Adds (s ++ t) b b₂)
-last_also s t b b₁ b₂ r e h = IfOk-weaker r (λ _. Adds t b₁ b₂) (λ _. Adds (s ++ t) b b₂) (λ _ f. also e f) h
+-- a statement's first byte and its number are behind
+pub head_passed : {a b : Printer} {k : ℕ} → Passes (head_size k) a b → (kind : ℕ) → k ≡ kind → a.pos + head_size kind < 2 ^ 64 → Prints (head_size kind) [] a b
+head_passed {a} {b} {k} e kind is h = subst (λ (j : ℕ). Passes (head_size j) a b) is e h

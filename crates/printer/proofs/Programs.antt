@@ -1,5 +1,5 @@
 -- What is printed of a command that loads a program is the program's text. Rests on encoding's Valid and on encodings being different.
-use Rattle.std.proofs.Common.{◌≡◌, ℕ, true, List, [], ◌∷◌, ◌++◌, length, take, drop, codes, Some, None, sym, refl, ap, ◌∙◌, arith}
+use Rattle.std.proofs.Common.{◌≡◌, ℕ, true, List, [], ◌∷◌, ◌++◌, length, take, drop, codes, string_bytes, Some, None, sym, refl, ap, ◌∙◌, subst, arith}
 use lib.Seq.{take-append_seam}
 use Rattle.program.specs.Syntax.{Program}
 use Rattle.program.specs.Encoding.{encode_program}
@@ -14,7 +14,8 @@ use Rattle.reader.specs.declared.Request.{Request}
 use Rattle.reader.specs.declared.Request.TheVariants.{Load, Alarms, AtEnd}
 use Rattle.printer.specs.Text.{variables_line, arrays_line, text_stmt, text_program}
 use Rattle.printer.specs.Ready.{StmtReady}
-use Rattle.printer.specs.Printing.{Adds}
+use Rattle.printer.specs.Printing.{Prints}
+use Rattle.printer.specs.declared.write.Printer.{Printer}
 use Rattle.printer.specs.Whole.{Encodes, ProgramText}
 
 module _ (text : List ℕ) (h : Header) (l : Loads text h) where
@@ -22,8 +23,8 @@ module _ (text : List ℕ) (h : Header) (l : Loads text h) where
   unfolding valid
   is_valid = l.encoded.1
 
-  pub body_ready : StmtReady text h.body (length text) l.program.body
-  body_ready =
+  here : StmtReady text h.body (length text) l.program.body
+  here =
       record {
         variables = l.program.vars;
         arrays = length l.program.arrays;
@@ -31,14 +32,19 @@ module _ (text : List ℕ) (h : Header) (l : Loads text h) where
         valid = (program_parts l.program is_valid).body;
       }
 
+  pub body_ready : (p : Printer) → p.text.now ≡ text → p.pos ≡ h.body → StmtReady p.text.now p.pos (length text) l.program.body
+  body_ready p same from =
+      subst (λ (k : ℕ). StmtReady p.text.now k (length text) l.program.body) (sym from)
+      (subst (λ (t : List ℕ). StmtReady t h.body (length text) l.program.body) (sym same) here)
+
   lengths_are : take h.arrays h.lengths ≡ l.program.arrays
   lengths_are =
       ap (λ (k : ℕ). take k h.lengths) l.arrays ∙ ap (λ (ns : List ℕ). take (length l.program.arrays) ns) l.lengths ∙ take-append_seam l.program.arrays _
 
-  pub loaded_text : (ns b b₁ : List ℕ) → b ≡ [] → ns ≡ take h.arrays h.lengths →
-      Adds (variables_line h.vars ++ arrays_line ns ++ text_stmt 0 l.program.body ++ codes "\n") b b₁ → b₁ ≡ text_program l.program
-  loaded_text ns b b₁ none is e =
-      e.is ∙ ap (λ (x : List ℕ). x ++ (variables_line h.vars ++ arrays_line ns ++ text_stmt 0 l.program.body ++ codes "\n")) none
+  pub loaded_text : {n : ℕ} {old new : Printer} (ns : List ℕ) → string_bytes old.out ≡ [] → ns ≡ take h.arrays h.lengths →
+      Prints n (variables_line h.vars ++ arrays_line ns ++ text_stmt 0 l.program.body ++ codes "\n") old new → string_bytes new.out ≡ text_program l.program
+  loaded_text {n} {old} {new} ns none is e =
+      e.out ∙ ap (λ (x : List ℕ). x ++ (variables_line h.vars ++ arrays_line ns ++ text_stmt 0 l.program.body ++ codes "\n")) none
       ∙ ap (λ (k : ℕ). variables_line k ++ arrays_line ns ++ text_stmt 0 l.program.body ++ codes "\n") l.vars
       ∙ ap (λ (x : List ℕ). variables_line l.program.vars ++ arrays_line x ++ text_stmt 0 l.program.body ++ codes "\n") (is ∙ lengths_are)
 

@@ -8,15 +8,19 @@ use Rattle.program.specs.Validity.{valid_expr, valid_test}
 use Rattle.encoding.specs.Standing.{Stands}
 use Rattle.encoding.specs.Parts.{NumberAt, BinaryAt, ElementAt, LessAt, EqualAt, NotAt, AndAt, OrAt}
 use Rattle.printer.specs.Ready.{ExprReady, TestReady}
+use Rattle.printer.specs.Printing.{Prints}
+use Rattle.printer.specs.declared.write.Printer.{Printer}
 use Rattle.printer.proofs.Placed.{placed}
 
--- at a position that is the same
+-- where printing has come to
 
-pub expr_moved : (text : List ℕ) (pos left : ℕ) (e : Expr) → ExprReady text pos left e → (at : ℕ) → at ≡ pos → ExprReady text at left e
-expr_moved text pos left e ready at is = subst (λ (k : ℕ). ExprReady text k left e) (sym is) ready
+pub expr_next : {old new : Printer} {n : ℕ} {words : List ℕ} {at to left : ℕ} {e : Expr} → Prints n words old new → ExprReady old.text.now at left e → to ≡ at → ExprReady new.text.now to left e
+expr_next {old} {new} {n} {words} {at} {to} {left} {e} step ready is =
+    subst (λ (k : ℕ). ExprReady new.text.now k left e) (sym is) (subst (λ (t : List ℕ). ExprReady t at left e) (sym step.text) ready)
 
-pub test_moved : (text : List ℕ) (pos left : ℕ) (t : Test) → TestReady text pos left t → (at : ℕ) → at ≡ pos → TestReady text at left t
-test_moved text pos left t ready at is = subst (λ (k : ℕ). TestReady text k left t) (sym is) ready
+pub test_next : {old new : Printer} {n : ℕ} {words : List ℕ} {at to left : ℕ} {t : Test} → Prints n words old new → TestReady old.text.now at left t → to ≡ at → TestReady new.text.now to left t
+test_next {old} {new} {n} {words} {at} {to} {left} {t} step ready is =
+    subst (λ (k : ℕ). TestReady new.text.now k left t) (sym is) (subst (λ (b : List ℕ). TestReady b at left t) (sym step.text) ready)
 
 -- two expressions that stand one behind the other
 pub exprs_ready : (n r : ℕ) (text : List ℕ) (pos left : ℕ) (a b : Expr) → (valid_expr n r a && valid_expr n r b) ≡ true →

@@ -1,5 +1,5 @@
 -- What is printed of each kind of statement is what the definitions say.
-use Rattle.std.proofs.Common.{◌≡◌, ℕ, Bool, true, false, List, [], ◌++◌, codes, decimal, sym, refl, ap, ◌∙◌, arith}
+use Rattle.std.proofs.Common.{◌≡◌, ℕ, Bool, true, false, List, [], ◌++◌, codes, decimal, sym, refl, ap, ◌∙◌, append_assoc, arith}
 use Rattle.program.specs.Syntax.{Expr, Test, Stmt, skip, assign, store, input, check, seq, branch, loop}
 use Rattle.encoding.proofs.Parts.{stmt_tag}
 use Rattle.printer.specs.Text.{variable_word, array_word, text_expr, text_test, indent, deeper, block, is_seq, is_skip, first_of, else_of, text_stmt}
@@ -17,10 +17,12 @@ unfolding text_stmt
 store_text d p a e x y is = ap (λ (k : ℕ). text_stmt d (store p k a e)) is
 
 pub input_text : (d p : ℕ) (x y n a m b : ℕ) → x ≡ y → n ≡ a → m ≡ b →
-    indent d ++ variable_word x ++ codes " takes " ++ decimal n ++ codes " to " ++ decimal m ≡ text_stmt d (input p y a b)
+    indent d ++ variable_word x ++ (codes " takes " ++ decimal n) ++ (codes " to " ++ decimal m) ≡ text_stmt d (input p y a b)
 unfolding text_stmt
 input_text d p x y n a m b is low high =
-    ap (λ (k : ℕ). text_stmt d (input p k n m)) is ∙ ap (λ (k : ℕ). text_stmt d (input p y k m)) low ∙ ap (λ (k : ℕ). text_stmt d (input p y a k)) high
+    sym (append_assoc (indent d ++ variable_word x ++ (codes " takes " ++ decimal n)) (codes " to ") (decimal m))
+    ∙ ap (λ (w : List ℕ). w ++ codes " to " ++ decimal m) (sym (append_assoc (indent d ++ variable_word x) (codes " takes ") (decimal n)))
+    ∙ ap (λ (k : ℕ). text_stmt d (input p k n m)) is ∙ ap (λ (k : ℕ). text_stmt d (input p y k m)) low ∙ ap (λ (k : ℕ). text_stmt d (input p y a k)) high
 
 pub check_text : (d p : ℕ) (t : Test) → indent d ++ codes "check " ++ text_test t ≡ text_stmt d (check p t)
 unfolding text_stmt

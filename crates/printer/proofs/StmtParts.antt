@@ -9,12 +9,24 @@ use Rattle.encoding.specs.Standing.{Stands}
 use Rattle.encoding.specs.Parts.{AssignAt, StoreAt, InputAt, CheckAt, SeqAt, BranchAt, LoopAt}
 use Rattle.encoding.proofs.Standing.{stands_move}
 use Rattle.printer.specs.Ready.{ExprReady, TestReady, StmtReady}
-use Rattle.printer.specs.Printing.{BoundsAt}
+use Rattle.printer.specs.Printing.{Prints, BoundsAt}
+use Rattle.printer.specs.declared.write.Printer.{Printer}
 use Rattle.printer.proofs.Placed.{placed}
 use Rattle.printer.proofs.ReadyParts.{exprs_ready}
 
-pub stmt_moved : (text : List ℕ) (pos left : ℕ) (d : Stmt) → StmtReady text pos left d → (at : ℕ) → at ≡ pos → StmtReady text at left d
-stmt_moved text pos left d ready at is = subst (λ (k : ℕ). StmtReady text k left d) (sym is) ready
+-- where printing has come to
+pub stmt_next : {old new : Printer} {n : ℕ} {words : List ℕ} {at to left : ℕ} {d : Stmt} → Prints n words old new → StmtReady old.text.now at left d → to ≡ at → StmtReady new.text.now to left d
+stmt_next {old} {new} {n} {words} {at} {to} {left} {d} step ready is =
+    subst (λ (k : ℕ). StmtReady new.text.now k left d) (sym is) (subst (λ (t : List ℕ). StmtReady t at left d) (sym step.text) ready)
+
+pub bounds_next : {old new : Printer} {n : ℕ} {words : List ℕ} {at to a b : ℕ} → Prints n words old new → BoundsAt old.text.now at a b → to ≡ at → BoundsAt new.text.now to a b
+bounds_next {old} {new} {n} {words} {at} {to} {a} {b} step h is =
+    subst (λ (k : ℕ). BoundsAt new.text.now k a b) (sym is) (subst (λ (t : List ℕ). BoundsAt t at a b) (sym step.text) h)
+
+-- the byte behind a statement's number
+head_byte : (text : List ℕ) (pos : ℕ) {old new : Printer} {words : List ℕ} → Prints 9 words old new → text ≡ old.text.now → pos ≡ old.pos → get_or text (pos + 9) 0 ≡ get_or new.text.now new.pos 0
+head_byte text pos {old} {new} step same from =
+    ap (λ (t : List ℕ). get_or t (pos + 9) 0) (same ∙ sym step.text) ∙ ap (λ (k : ℕ). get_or new.text.now k 0) (ap (λ (k : ℕ). k + 9) from ∙ sym step.pos)
 
 module _ (text : List ℕ) (pos left : ℕ) (d : Stmt) (ready : StmtReady text pos left d) where
   valid_as : (x : Stmt) → d ≡ x → valid_stmt ready.variables ready.arrays x ≡ true
@@ -37,8 +49,8 @@ module _ (text : List ℕ) (pos left : ℕ) (d : Stmt) (ready : StmtReady text p
   part_ready a from v h l at is =
       record { variables = ready.variables; arrays = ready.arrays; placed = placed text at from (left - 1) (encode_stmt a) is h l; valid = v }
 
-  pub assign_is : (h : AssignAt text pos d) → (at : ℕ) → at ≡ pos + 9 → d ≡ assign h.p (get_or text at 0) h.e
-  assign_is h at is = h.is ∙ sym (ap (λ (v : ℕ). assign h.p v h.e) (ap (λ (j : ℕ). get_or text j 0) is ∙ h.v_is))
+  pub assign_is : (h : AssignAt text pos d) {old new : Printer} {words : List ℕ} → Prints 9 words old new → text ≡ old.text.now → pos ≡ old.pos → d ≡ assign h.p (get_or new.text.now new.pos 0) h.e
+  assign_is h step same from = h.is ∙ ap (λ (v : ℕ). assign h.p v h.e) (sym h.v_is ∙ head_byte text pos step same from)
 
   pub assign_ready : (h : AssignAt text pos d) → (at : ℕ) → at ≡ pos + 10 → ExprReady text at (left - 1) h.e
   unfolding valid_stmt
@@ -50,8 +62,8 @@ module _ (text : List ℕ) (pos left : ℕ) (d : Stmt) (ready : StmtReady text p
         valid = (and_parts (ltb h.v ready.variables) _ (valid_as _ h.is)).1;
       }
 
-  pub store_is : (h : StoreAt text pos d) → (at : ℕ) → at ≡ pos + 9 → d ≡ store h.p (get_or text at 0) h.a h.e
-  store_is h at is = h.is ∙ sym (ap (λ (v : ℕ). store h.p v h.a h.e) (ap (λ (j : ℕ). get_or text j 0) is ∙ h.r_is))
+  pub store_is : (h : StoreAt text pos d) {old new : Printer} {words : List ℕ} → Prints 9 words old new → text ≡ old.text.now → pos ≡ old.pos → d ≡ store h.p (get_or new.text.now new.pos 0) h.a h.e
+  store_is h step same from = h.is ∙ ap (λ (v : ℕ). store h.p v h.a h.e) (sym h.r_is ∙ head_byte text pos step same from)
 
   pub store_ready : (h : StoreAt text pos d) → (at : ℕ) → at ≡ pos + 10 → ExprReady text at (left - 1) h.a × ExprReady text (at + length (encode_expr h.a)) (left - 1) h.e
   unfolding valid_stmt
@@ -59,8 +71,8 @@ module _ (text : List ℕ) (pos left : ℕ) (d : Stmt) (ready : StmtReady text p
       exprs_ready ready.variables ready.arrays text (pos + 10) (left - 1) h.a h.e (and_parts (ltb h.r ready.arrays) _ (valid_as _ h.is)).1
       h.index h.value (omega (arith, ready.placed.enough, h.long)) at is
 
-  pub input_is : (h : InputAt text pos d) → (at : ℕ) → at ≡ pos + 9 → d ≡ input h.p (get_or text at 0) h.a h.b
-  input_is h at is = h.is ∙ sym (ap (λ (v : ℕ). input h.p v h.a h.b) (ap (λ (j : ℕ). get_or text j 0) is ∙ h.v_is))
+  pub input_is : (h : InputAt text pos d) {old new : Printer} {words : List ℕ} → Prints 9 words old new → text ≡ old.text.now → pos ≡ old.pos → d ≡ input h.p (get_or new.text.now new.pos 0) h.a h.b
+  input_is h step same from = h.is ∙ ap (λ (v : ℕ). input h.p v h.a h.b) (sym h.v_is ∙ head_byte text pos step same from)
 
   pub input_bounds : (h : InputAt text pos d) → (at : ℕ) → at ≡ pos + 10 → BoundsAt text at h.a h.b
   unfolding valid_stmt

@@ -1,13 +1,8 @@
 -- What is printed of each kind of test is what the definitions say.
-use Rattle.std.proofs.Common.{◌≡◌, ℕ, false, List, ◌++◌, codes, sym, ap, subst}
+use Rattle.std.proofs.Common.{◌≡◌, ℕ, false, List, ◌++◌, codes, sym, ap}
 use Rattle.program.specs.Syntax.{Test}
 use Rattle.encoding.specs.Parts.{LessAt, EqualAt, NotAt, AndAt, OrAt}
 use Rattle.printer.specs.Text.{text_expr, text_test}
-use Rattle.printer.specs.Printing.{Printed}
-
--- another name for the end and for the words
-pub printed_as : {stop stop₁ last : ℕ} {s t b b₁ : List ℕ} → Printed stop s b last b₁ → stop ≡ stop₁ → s ≡ t → Printed stop₁ t b last b₁
-printed_as {stop} {stop₁} {last} {s} {t} {b} {b₁} h e f = subst (λ (x : List ℕ). Printed stop₁ x b last b₁) f (subst (λ (k : ℕ). Printed k s b last b₁) e h)
 
 pub less_text : (text : List ℕ) (pos : ℕ) (t : Test) (h : LessAt text pos t) → text_expr false h.a ++ codes " < " ++ text_expr false h.b ≡ text_test t
 unfolding text_test

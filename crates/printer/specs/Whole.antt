@@ -1,5 +1,5 @@
 -- What is printed of a whole program. Assumes nothing: these are definitions.
-use Rattle.std.specs.Prelude.{◌≡◌, ℕ, true, List, Ok, Err, string_bytes, Result, String}
+use Rattle.std.specs.Prelude.{◌≡◌, ℕ, true, List, codes, Ok, Err, string_bytes, Result, String}
 use Rattle.std.specs.declared.alloc.Global.{Global}
 use Rattle.program.specs.Syntax.{Program}
 use Rattle.program.specs.Encoding.{encode_program}
@@ -30,3 +30,8 @@ abbrev pub ProgramPrinted : List ℕ → Result (String Global) PrintError → T
 ProgramPrinted bytes (Ok s) = ProgramText bytes (string_bytes s)
 ProgramPrinted bytes (Err NoMemory) = Unit {0}
 ProgramPrinted bytes (Err NoProgram) = (p : Program) → Encodes bytes p → ⊥
+
+-- an error in words
+abbrev pub error_words : PrintError → List ℕ
+error_words NoMemory = codes "out of memory"
+error_words NoProgram = codes "no program"

@@ -1,9 +1,9 @@
 // The declarations of a program's variables and arrays.
-ghost use Rattle.std.specs.Prelude.{◌≡◌, string_bytes, OnOk};
+ghost use Rattle.std.specs.Prelude.{◌≡◌, OnOk};
 ghost use Rattle.printer.specs.Text.{separator as separator_text, line_end, variables_line, arrays_line};
-ghost use Rattle.printer.specs.Printing.{Adds};
+ghost use Rattle.printer.specs.Printing.{Prints};
 
-use crate::write::{put, put_array, put_number, put_variable};
+use crate::write::Printer;
 use std::alloc::AllocError;
 
 // What stands before the declared word with this index.
@@ -13,34 +13,35 @@ fn separator(first: &'static str, i: u64) -> &'static str
     if i == 0 { first } else { ", " }
 }
 
-// The end of a line, where something was declared.
-fn end_line(out: &mut String, declared: u64) -> Result<(), AllocError>
-    ensures { OnOk result (Adds (line_end declared) (string_bytes out.old) (string_bytes out.new)) }
-{
-    put(out, if declared == 0 { "" } else { "\n" })
-}
-
-// So many variables.
-pub fn print_variables(out: &mut String, count: u64) -> Result<(), AllocError>
-    ensures { OnOk result (Adds (variables_line count) (string_bytes out.old) (string_bytes out.new)) }
-{
-    for i in 0..count {
-        put(out, separator("names ", i))?;
-        put_variable(out, i)?;
+impl Printer<'_> {
+    // The end of a line, where something was declared.
+    fn end_line(&mut self, declared: u64) -> Result<(), AllocError>
+        ensures { OnOk result (Prints 0 (line_end declared) self.old self.new) }
+    {
+        self.put(if declared == 0 { "" } else { "\n" })
     }
-    end_line(out, count)
-}
 
-// Arrays of these lengths.
-pub fn print_arrays(out: &mut String, lengths: &[u64]) -> Result<(), AllocError>
-    ensures { OnOk result (Adds (arrays_line lengths.now) (string_bytes out.old) (string_bytes out.new)) }
-{
-    for (i, n) in lengths.iter().enumerate() {
-        put(out, separator("rows ", i as u64))?;
-        put_array(out, i as u64)?;
-        put(out, "[")?;
-        put_number(out, *n)?;
-        put(out, "]")?;
+    // So many variables.
+    pub fn variables(&mut self, count: u64) -> Result<(), AllocError>
+        ensures { OnOk result (Prints 0 (variables_line count) self.old self.new) }
+    {
+        for i in 0..count {
+            self.put(separator("names ", i))?;
+            self.number("x", i)?;
+        }
+        self.end_line(count)
     }
-    end_line(out, lengths.len() as u64)
+
+    // Arrays of these lengths.
+    pub fn arrays(&mut self, lengths: &[u64]) -> Result<(), AllocError>
+        ensures { OnOk result (Prints 0 (arrays_line lengths.now) self.old self.new) }
+    {
+        for (i, n) in lengths.iter().enumerate() {
+            self.put(separator("rows ", i as u64))?;
+            self.number("row", i as u64)?;
+            self.number("[", *n)?;
+            self.put("]")?;
+        }
+        self.end_line(lengths.len() as u64)
+    }
 }

@@ -2,9 +2,9 @@
 
 #![tactic(auto)]
 
-ghost use Rattle.std.specs.Prelude.{◌≡◌, ◌∷◌, IfOk, string_bytes};
+ghost use Rattle.std.specs.Prelude.{◌≡◌, Some, IfOk, string_bytes};
 ghost use Rattle.reader.specs.Request.{Loads};
-ghost use Rattle.printer.specs.Whole.{LoadedText, ProgramPrinted};
+ghost use Rattle.printer.specs.Whole.{LoadedText, ProgramPrinted, error_words};
 ghost use Rattle.printer.specs.declared.PrintError.TheVariants.{NoMemory};
 
 mod condition;
@@ -13,22 +13,36 @@ mod expression;
 mod statement;
 mod write;
 
-use declaration::{print_arrays, print_variables};
 use reader::{Header, Request, read_command};
-use statement::print_stmt;
 use std::alloc::{AllocError, Global};
-use write::put;
+use std::error::Error;
+use std::fmt;
+use valid::load_command;
+use write::Printer;
 
-// The first byte of a command that loads a program.
-const LOAD: u8 = 1;
-
-// Why nothing was printed: there was no memory, or the bytes are no valid program.
-#[derive(Clone, Copy)]
+/// Why nothing was printed.
+#[derive(Clone, Copy, PartialEq, Eq, Debug)]
 pub enum PrintError {
+    /// There was no memory.
     NoMemory,
+    /// The bytes are no valid program.
     NoProgram,
 }
 
+impl fmt::Display for PrintError {
+    ghost output = { λ e. Some (error_words e) };
+
+    fn fmt<W: fmt::Write>(&self, f: &mut fmt::Formatter<W>) -> fmt::Result {
+        f.write_str(match self {
+            PrintError::NoMemory => "out of memory",
+            PrintError::NoProgram => "no program",
+        })
+    }
+}
+
+impl Error for PrintError {}
+
+// By hand, since a derived one doesn't tell callers which error a `?` gives.
 impl From<AllocError> for PrintError {
     ghost from_gives = { λ _ r. r ≡ NoMemory };
 
@@ -37,34 +51,24 @@ impl From<AllocError> for PrintError {
     }
 }
 
-// The command that loads a program.
-fn command_of(heap: Global, program: &[u8]) -> Result<Vec<u8>, AllocError>
-    ensures { IfOk result (λ v. v.items ≡ 1 ∷ program.now) }
-{
-    let mut text = Vec::new(heap);
-    text.push(LOAD)?;
-    text.extend_from_slice(program)?;
-    Ok(text)
-}
-
 // The text of the program that a command loads.
 fn print_loaded(heap: Global, text: &[u8], header: &Header) -> Result<String, AllocError>
     requires { Loads text.now header.now }
     ensures { IfOk result (λ s. LoadedText text.now header.now (string_bytes s)) }
 {
-    let mut out = String::new(heap);
-    print_variables(&mut out, header.vars)?;
-    print_arrays(&mut out, &header.lengths[0..header.arrays as usize])?;
-    print_stmt(text, header.body, text.len(), 0, &mut out)?;
-    put(&mut out, "\n")?;
-    Ok(out)
+    let mut printer = Printer::new(heap, text, header.body);
+    printer.variables(header.vars)?;
+    printer.arrays(&header.lengths[0..header.arrays as usize])?;
+    printer.stmt(text.len(), 0)?;
+    printer.put("\n")?;
+    Ok(printer.out)
 }
 
 /// The text of an encoded program (the bytes behind the first one of the command that loads it).
 pub fn print_program(heap: Global, program: &[u8]) -> Result<String, PrintError>
     ensures { ProgramPrinted program.now result }
 {
-    let command = command_of(heap, program)?;
+    let command = load_command(heap, program)?;
     let text = command.as_slice();
     let Some(request) = read_command(text) else {
         return Err(PrintError::NoProgram);

@@ -1,18 +1,15 @@
-// Statements printed from their bytes, a line each.
-ghost use Rattle.std.specs.Prelude.{◌≡◌, IfOk, string_bytes};
+// Statements printed from their bytes, a line each. The first byte is matched as a number, as that of an expression.
+ghost use Rattle.std.specs.Prelude.{◌≡◌, ◌+◌, ◌^◌, ◌<◌, [], slice_index, OnOk};
 ghost use Rattle.printer.specs.Text.{deeper as deeper_level};
-ghost use Rattle.printer.specs.Printing.{StmtPrinted, BlockPrinted, FirstPrinted, ElsePrinted, AssignPrinted, StorePrinted, InputPrinted, CheckPrinted, BranchPrinted, LoopPrinted};
+ghost use Rattle.printer.specs.Printing.{Passes, StmtPrinted, BlockPrinted, FirstPrinted, ElsePrinted, AssignPrinted, StorePrinted, InputPrinted, CheckPrinted, BranchPrinted, LoopPrinted, head_size};
 
-use crate::condition::print_test;
-use crate::expression::print_expr;
-use crate::write::{indent, put, put_array, put_number, put_variable};
-use bytes_at::{byte_at, word_at};
+use crate::write::Printer;
 use std::alloc::AllocError;
 
 // Deeper levels are not indented more than this one.
 const DEEPEST: usize = 16;
 
-// The first bytes of a statement that does nothing, and of a sequence.
+// The first bytes of a statement that does nothing, and of a sequence: they have no number.
 const SKIP: u8 = 0;
 
 const SEQ: u8 = 5;
@@ -24,198 +21,153 @@ fn deeper(depth: usize) -> usize
     if depth < DEEPEST { depth + 1 } else { depth }
 }
 
-// An assignment, behind its number.
-fn print_assign(
-    text: &[u8],
-    pos: usize,
-    left: usize,
-    depth: usize,
-    out: &mut String,
-) -> Result<usize, AllocError>
-    ensures { IfOk result (AssignPrinted text.now pos left depth (string_bytes out.old) (string_bytes out.new)) }
-{
-    indent(out, depth)?;
-    put_variable(out, byte_at(text, pos) as u64)?;
-    put(out, " is ")?;
-    print_expr(text, pos.saturating_add(1), left, false, out)
-}
-
-// A store, behind its number.
-fn print_store(
-    text: &[u8],
-    pos: usize,
-    left: usize,
-    depth: usize,
-    out: &mut String,
-) -> Result<usize, AllocError>
-    ensures { IfOk result (StorePrinted text.now pos left depth (string_bytes out.old) (string_bytes out.new)) }
-{
-    indent(out, depth)?;
-    put_array(out, byte_at(text, pos) as u64)?;
-    put(out, "[")?;
-    let value = print_expr(text, pos.saturating_add(1), left, false, out)?;
-    put(out, "] is ")?;
-    print_expr(text, value, left, false, out)
-}
-
-// An input, behind its number.
-fn print_input(text: &[u8], pos: usize, depth: usize, out: &mut String) -> Result<usize, AllocError>
-    ensures { IfOk result (InputPrinted text.now pos depth (string_bytes out.old) (string_bytes out.new)) }
-{
-    indent(out, depth)?;
-    put_variable(out, byte_at(text, pos) as u64)?;
-    put(out, " takes ")?;
-    put_number(out, word_at(text, pos.saturating_add(1)))?;
-    put(out, " to ")?;
-    put_number(out, word_at(text, pos.saturating_add(9)))?;
-    Ok(pos.saturating_add(17))
-}
-
-// A check, behind its number.
-fn print_check(
-    text: &[u8],
-    pos: usize,
-    left: usize,
-    depth: usize,
-    out: &mut String,
-) -> Result<usize, AllocError>
-    ensures { IfOk result (CheckPrinted text.now pos left depth (string_bytes out.old) (string_bytes out.new)) }
-{
-    indent(out, depth)?;
-    put(out, "check ")?;
-    print_test(text, pos, left, out)
-}
-
-// A statement on lines of its own, one level deeper; what comes behind it is indented.
-#[cycle(print_block_print_branch_print_else_print_first_print_loop_print_stmt)]
-fn print_block(
-    text: &[u8],
-    pos: usize,
-    left: usize,
-    depth: usize,
-    out: &mut String,
-) -> Result<usize, AllocError>
-    ensures { IfOk result (BlockPrinted text.now pos left depth (string_bytes out.old) (string_bytes out.new)) }
-{
-    put(out, "\n")?;
-    let end = print_stmt(text, pos, left, deeper(depth), out)?;
-    put(out, "\n")?;
-    indent(out, depth)?;
-    Ok(end)
-}
-
-// The first of two statements: a sequence stands in brackets.
-#[cycle(print_block_print_branch_print_else_print_first_print_loop_print_stmt)]
-fn print_first(
-    text: &[u8],
-    pos: usize,
-    left: usize,
-    depth: usize,
-    out: &mut String,
-) -> Result<usize, AllocError>
-    ensures { IfOk result (FirstPrinted text.now pos left depth (string_bytes out.old) (string_bytes out.new)) }
-{
-    if byte_at(text, pos) != SEQ {
-        return print_stmt(text, pos, left, depth, out);
+impl Printer<'_> {
+    // The first byte of the next statement; its number, if it has one, is behind too.
+    fn kind(&mut self) -> u8
+        ensures value { result ≡ slice_index self.old.text.now self.old.pos }
+        ensures passed { Passes (head_size result) self.old self.new }
+    {
+        let kind = self.peek();
+        self.pass(if kind == SKIP || kind == SEQ { 1 } else { 9 });
+        kind
     }
-    indent(out, depth)?;
-    put(out, "(")?;
-    let end = print_block(text, pos, left, depth, out)?;
-    put(out, ")")?;
-    Ok(end)
-}
 
-// The second part of a branch, if it does something.
-#[cycle(print_block_print_branch_print_else_print_first_print_loop_print_stmt)]
-fn print_else(
-    text: &[u8],
-    pos: usize,
-    left: usize,
-    depth: usize,
-    out: &mut String,
-) -> Result<usize, AllocError>
-    ensures { IfOk result (ElsePrinted text.now pos left depth (string_bytes out.old) (string_bytes out.new)) }
-{
-    if byte_at(text, pos) == SKIP {
-        return Ok(pos.saturating_add(1));
+    // An assignment, behind its number.
+    fn assign(&mut self, left: usize, depth: usize) -> Result<(), AllocError>
+        ensures { OnOk result (AssignPrinted left depth self.old self.new) }
+    {
+        let x = self.byte();
+        self.indent(depth)?;
+        self.number("x", u64::from(x))?;
+        self.put(" is ")?;
+        self.expr(left, false)
     }
-    put(out, "else")?;
-    print_block(text, pos, left, depth, out)
-}
 
-// A branch, behind its number.
-#[cycle(print_block_print_branch_print_else_print_first_print_loop_print_stmt)]
-fn print_branch(
-    text: &[u8],
-    pos: usize,
-    left: usize,
-    depth: usize,
-    out: &mut String,
-) -> Result<usize, AllocError>
-    ensures { IfOk result (BranchPrinted text.now pos left depth (string_bytes out.old) (string_bytes out.new)) }
-{
-    indent(out, depth)?;
-    put(out, "if ")?;
-    let first = print_test(text, pos, left, out)?;
-    put(out, " then")?;
-    let second = print_block(text, first, left, depth, out)?;
-    let end = print_else(text, second, left, depth, out)?;
-    put(out, "end")?;
-    Ok(end)
-}
-
-// A loop, behind its number.
-#[cycle(print_block_print_branch_print_else_print_first_print_loop_print_stmt)]
-fn print_loop(
-    text: &[u8],
-    pos: usize,
-    left: usize,
-    depth: usize,
-    out: &mut String,
-) -> Result<usize, AllocError>
-    ensures { IfOk result (LoopPrinted text.now pos left depth (string_bytes out.old) (string_bytes out.new)) }
-{
-    indent(out, depth)?;
-    put(out, "while ")?;
-    let body = print_test(text, pos, left, out)?;
-    put(out, " do")?;
-    let end = print_block(text, body, left, depth, out)?;
-    put(out, "end")?;
-    Ok(end)
-}
-
-// The statement at `pos`, of at most `left` bytes, indented by `depth` levels: where it ends.
-#[cycle(print_block_print_branch_print_else_print_first_print_loop_print_stmt)]
-pub fn print_stmt(
-    text: &[u8],
-    pos: usize,
-    left: usize,
-    depth: usize,
-    out: &mut String,
-) -> Result<usize, AllocError>
-    ensures { IfOk result (StmtPrinted text.now pos left depth (string_bytes out.old) (string_bytes out.new)) }
-{
-    if left == 0 {
-        return Ok(pos);
+    // A store, behind its number.
+    fn store(&mut self, left: usize, depth: usize) -> Result<(), AllocError>
+        ensures { OnOk result (StorePrinted left depth self.old self.new) }
+    {
+        let r = self.byte();
+        self.indent(depth)?;
+        self.number("row", u64::from(r))?;
+        self.put("[")?;
+        self.expr(left, false)?;
+        self.put("] is ")?;
+        self.expr(left, false)
     }
-    let next = pos.saturating_add(9);
-    match byte_at(text, pos) {
-        0 => {
-            indent(out, depth)?;
-            put(out, "nothing")?;
-            Ok(pos.saturating_add(1))
+
+    // An input, behind its number.
+    fn input(&mut self, depth: usize) -> Result<(), AllocError>
+        ensures { OnOk result (InputPrinted depth self.old self.new) }
+    {
+        let x = self.byte();
+        let low = self.word();
+        let high = self.word();
+        self.indent(depth)?;
+        self.number("x", u64::from(x))?;
+        self.number(" takes ", low)?;
+        self.number(" to ", high)
+    }
+
+    // A check, behind its number.
+    fn check(&mut self, left: usize, depth: usize) -> Result<(), AllocError>
+        ensures { OnOk result (CheckPrinted left depth self.old self.new) }
+    {
+        self.indent(depth)?;
+        self.put("check ")?;
+        self.test(left)
+    }
+
+    // The next statement on lines of its own, one level deeper; what comes behind it is indented.
+    #[cycle(statements)]
+    fn block(&mut self, left: usize, depth: usize) -> Result<(), AllocError>
+        ensures { OnOk result (BlockPrinted left depth self.old self.new) }
+    {
+        self.put("\n")?;
+        self.stmt(left, deeper(depth))?;
+        self.put("\n")?;
+        self.indent(depth)
+    }
+
+    // The first of two statements: a sequence stands in brackets.
+    #[cycle(statements)]
+    fn first(&mut self, left: usize, depth: usize) -> Result<(), AllocError>
+        ensures { OnOk result (FirstPrinted left depth self.old self.new) }
+    {
+        if self.peek() != SEQ {
+            return self.stmt(left, depth);
         }
-        1 => print_assign(text, next, left - 1, depth, out),
-        2 => print_store(text, next, left - 1, depth, out),
-        3 => print_input(text, next, depth, out),
-        4 => print_check(text, next, left - 1, depth, out),
-        5 => {
-            let second = print_first(text, pos.saturating_add(1), left - 1, depth, out)?;
-            put(out, ";\n")?;
-            print_stmt(text, second, left - 1, depth, out)
+        self.indent(depth)?;
+        self.put("(")?;
+        self.block(left, depth)?;
+        self.put(")")
+    }
+
+    // The second part of a branch, if it does something.
+    #[cycle(statements)]
+    fn otherwise(&mut self, left: usize, depth: usize) -> Result<(), AllocError>
+        ensures { OnOk result (ElsePrinted left depth self.old self.new) }
+    {
+        if self.peek() == SKIP {
+            self.pass(1);
+            return Ok(());
         }
-        6 => print_branch(text, next, left - 1, depth, out),
-        7 => print_loop(text, next, left - 1, depth, out),
-        _ => Ok(pos),
+        self.put("else")?;
+        self.block(left, depth)
+    }
+
+    // A branch, behind its number.
+    #[cycle(statements)]
+    fn branch(&mut self, left: usize, depth: usize) -> Result<(), AllocError>
+        ensures { OnOk result (BranchPrinted left depth self.old self.new) }
+    {
+        self.indent(depth)?;
+        self.put("if ")?;
+        self.test(left)?;
+        self.put(" then")?;
+        self.block(left, depth)?;
+        self.otherwise(left, depth)?;
+        self.put("end")
+    }
+
+    // A loop, behind its number.
+    #[cycle(statements)]
+    fn repeat(&mut self, left: usize, depth: usize) -> Result<(), AllocError>
+        ensures { OnOk result (LoopPrinted left depth self.old self.new) }
+    {
+        self.indent(depth)?;
+        self.put("while ")?;
+        self.test(left)?;
+        self.put(" do")?;
+        self.block(left, depth)?;
+        self.put("end")
+    }
+
+    // The next statement, of at most `left` bytes, indented by `depth` levels.
+    #[cycle(statements)]
+    pub fn stmt(&mut self, left: usize, depth: usize) -> Result<(), AllocError>
+        ensures { OnOk result (StmtPrinted left depth self.old self.new) }
+    {
+        if left == 0 {
+            return Ok(());
+        }
+        match self.kind() {
+            SKIP => {
+                self.indent(depth)?;
+                self.put("nothing")
+            }
+            1 => self.assign(left - 1, depth),
+            2 => self.store(left - 1, depth),
+            3 => self.input(depth),
+            4 => self.check(left - 1, depth),
+            SEQ => {
+                self.first(left - 1, depth)?;
+                self.put(";\n")?;
+                self.stmt(left - 1, depth)
+            }
+            6 => self.branch(left - 1, depth),
+            7 => self.repeat(left - 1, depth),
+            _ => Ok(()),
+        }
     }
 }
