@@ -19,13 +19,7 @@ fn count_newlines(bytes: &[u8]) -> usize
     ensures is { result ≡ newlines bytes.now }
     ensures within { result ≤ length bytes.now }
 {
-    let mut count = 0;
-    for b in bytes {
-        if *b == 10 {
-            count += 1;
-        }
-    }
-    count
+    bytes.iter().filter(|b| **b == b'\n').count()
 }
 
 // Behind the last line end before `at`.
@@ -35,11 +29,19 @@ fn find_start(text: &[u8], at: usize) -> usize
     ensures inside { (k : ℕ) → result ≤ k → k < at → slice_index text.now k ≢ 10 }
     ensures opened { 0 < result → slice_index text.now (result - 1) ≡ 10 }
 {
-    let mut start = at;
-    while start > 0 && text[start - 1] != 10 {
-        start -= 1;
-    }
-    start
+    text[..at]
+        .iter()
+        .rposition(|b| *b == b'\n')
+        .map_or(0, |i| i + 1)
+}
+
+// How many bytes stand before the first line end.
+fn line_len(text: &[u8]) -> usize
+    ensures within { result ≤ length text.now }
+    ensures inside { (k : ℕ) → k < result → slice_index text.now k ≢ 10 }
+    ensures closed { result < length text.now → slice_index text.now result ≡ 10 }
+{
+    text.iter().position(|b| *b == b'\n').unwrap_or(text.len())
 }
 
 // The first line end from `at` on, or the end of the text.
@@ -50,11 +52,7 @@ fn find_end(text: &[u8], at: usize) -> usize
     ensures inside { (k : ℕ) → at ≤ k → k < result → slice_index text.now k ≢ 10 }
     ensures closed { result < length text.now → slice_index text.now result ≡ 10 }
 {
-    let mut end = at;
-    while end < text.len() && text[end] != 10 {
-        end += 1;
-    }
-    end
+    at + line_len(&text[at..])
 }
 
 // The place of a byte; one past the end stands at the end.
@@ -64,7 +62,7 @@ pub fn place_of(text: &[u8], offset: usize) -> Place
     let at = offset.min(text.len());
     let line_start = find_start(text, at);
     let line_end = find_end(text, at);
-    let line = count_newlines(&text[0..at]) + 1;
+    let line = count_newlines(&text[..at]) + 1;
     Place {
         line,
         column: at - line_start + 1,
