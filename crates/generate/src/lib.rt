@@ -2,8 +2,6 @@
 
 #![tactic(auto)]
 
-mod simple;
-mod statement;
 mod whole;
 
 pub use whole::{Made, make_program};

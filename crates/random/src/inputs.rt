@@ -1,14 +1,12 @@
 // Random inputs for a program: mostly ends of what it takes, and what lies just beside them.
 use crate::numbers::Random;
+use program::LIMIT;
 use std::alloc::{AllocError, Global};
-
-// Numbers are below this.
-const LIMIT: u64 = 1 << 32;
 
 // One of the ends, or 0 if there are none.
 fn end_of(random: &mut Random, ends: &[u64]) -> u64 {
     let i = random.below(ends.len() as u64) as usize;
-    if i < ends.len() { ends[i] } else { 0 }
+    ends.get(i).copied().unwrap_or(0)
 }
 
 fn input(random: &mut Random, ends: &[u64]) -> u64 {
@@ -32,10 +30,6 @@ pub fn make_inputs(
     ends: &[u64],
     most: u64,
 ) -> Result<Vec<u64>, AllocError> {
-    let mut inputs = Vec::new(heap);
     let count = random.below(most);
-    for _ in 0..count {
-        inputs.push(input(random, ends))?;
-    }
-    Ok(inputs)
+    (0..count).map(|_| input(random, ends)).collect(heap)
 }

@@ -1,9 +1,7 @@
 // A program that is being written: its bytes so far, and what its parts are drawn from.
+use program::LIMIT;
 use random::Random;
 use std::alloc::{AllocError, Global};
-
-// Numbers are below this.
-pub const LIMIT: u64 = 1 << 32;
 
 #[derive(Drop)]
 pub struct Draft {
@@ -12,10 +10,10 @@ pub struct Draft {
     // The ends of the inputs' ranges.
     pub ends: Vec<u64>,
     pub vars: u8,
+    // The program has the first so many of four arrays; numbers are drawn from the lengths of all.
     pub arrays: u8,
-    // The arrays' lengths,
     pub lengths: [u64; 4],
-    // and numbers near which the program's numbers lie.
+    // Numbers near which the program's numbers lie.
     pub near: [u64; 4],
     // One operation in so many is taken without care.
     pub care: u64,

@@ -1,31 +1,46 @@
 // Random expressions and tests, written as bytes.
 use crate::draft::Draft;
+use crate::tags::{Term, Test};
+use program::Operator;
 use std::alloc::AllocError;
 
 impl Draft {
-    pub fn number(&mut self, n: u64) -> Result<(), AllocError> {
-        self.write(&[0])?;
-        self.word(n)
+    // The first bytes of an expression; those of a number and of a variable are all of it.
+    pub(crate) fn term(&mut self, term: Term) -> Result<(), AllocError> {
+        match term {
+            Term::Number(n) => {
+                self.write(&[0])?;
+                self.word(n)
+            }
+            Term::Variable(x) => self.write(&[1, x]),
+            Term::Operation(operator) => self.write(&[2, operator.code()]),
+            Term::Element(array) => self.write(&[3, array]),
+        }
+    }
+
+    // The first byte of a test.
+    pub(crate) fn tested(&mut self, test: Test) -> Result<(), AllocError> {
+        self.write(&[test as u8])
     }
 
     // A variable or a number.
     fn leaf(&mut self) -> Result<(), AllocError> {
-        if self.random.one_in(2) {
-            let n = self.pick();
-            return self.number(n);
-        }
-        let x = self.variable();
-        self.write(&[1, x])
+        let leaf = if self.random.one_in(2) {
+            Term::Number(self.pick())
+        } else {
+            Term::Variable(self.variable())
+        };
+        self.term(leaf)
     }
 
-    // An operation, mostly a sum or a difference.
-    fn operation(&mut self) -> u8 {
+    // A random operator, mostly of a sum or a difference.
+    fn operator(&mut self) -> Operator {
         match self.random.below(10) {
-            0..=3 => 0,
-            4..=6 => 1,
-            7 => 2,
-            8 => 3,
-            _ => 4,
+            0..=3 => Operator::Sum,
+            4..=6 => Operator::Difference,
+            7 => Operator::Product,
+            8 => Operator::Quotient,
+            _ => Operator::Remainder,
         }
     }
 
@@ -33,15 +48,15 @@ impl Draft {
     #[cycle(expression_index_tame)]
     fn tame(&mut self, depth: u32) -> Result<(), AllocError> {
         let n = 1 + self.random.below(10);
-        let operation = match self.random.below(8) {
-            0..=3 => 0,
-            4 => 3,
-            5 | 6 => 4,
-            _ => 2,
+        let operator = match self.random.below(8) {
+            0..=3 => Operator::Sum,
+            4 => Operator::Quotient,
+            5 | 6 => Operator::Remainder,
+            _ => Operator::Product,
         };
-        self.write(&[2, operation])?;
+        self.term(Term::Operation(operator))?;
         self.expression(depth)?;
-        self.number(n)
+        self.term(Term::Number(n))
     }
 
     // An index of the array, mostly one that it has.
@@ -51,15 +66,15 @@ impl Draft {
         let within = self.random.below(length);
         let counter = self.counter();
         match self.random.below(8) {
-            0..=2 => self.number(within),
-            3..=4 => self.write(&[1, counter]),
+            0..=2 => self.term(Term::Number(within)),
+            3..=4 => self.term(Term::Variable(counter)),
             5..=6 if depth > 0 => {
-                self.write(&[2, 4])?;
+                self.term(Term::Operation(Operator::Remainder))?;
                 self.expression(depth - 1)?;
-                self.number(length)
+                self.term(Term::Number(length))
             }
             7 if depth > 0 && self.random.one_in(self.care) => self.expression(depth - 1),
-            _ => self.number(length.saturating_sub(1)),
+            _ => self.term(Term::Number(length.saturating_sub(1))),
         }
     }
 
@@ -73,12 +88,12 @@ impl Draft {
             0..=4 => self.leaf(),
             5..=6 if self.arrays > 0 => {
                 let array = self.array();
-                self.write(&[3, array])?;
+                self.term(Term::Element(array))?;
                 self.index(array, depth - 1)
             }
             7 if self.random.one_in(self.care) => {
-                let operation = self.operation();
-                self.write(&[2, operation])?;
+                let operator = self.operator();
+                self.term(Term::Operation(operator))?;
                 self.expression(depth - 1)?;
                 self.expression(depth - 1)
             }
@@ -88,14 +103,18 @@ impl Draft {
 
     // A comparison, mostly of a variable.
     fn comparison(&mut self, depth: u32) -> Result<(), AllocError> {
-        let tag = if self.random.one_in(4) { 1 } else { 0 };
-        self.write(&[tag])?;
+        let test = if self.random.one_in(4) {
+            Test::Equal
+        } else {
+            Test::Less
+        };
+        self.tested(test)?;
         if self.random.one_in(3) {
             self.expression(depth)?;
             return self.leaf();
         }
         let x = self.variable();
-        self.write(&[1, x])?;
+        self.term(Term::Variable(x))?;
         self.expression(depth)
     }
 
@@ -104,16 +123,19 @@ impl Draft {
         if depth == 0 {
             return self.comparison(0);
         }
-        let tag = 2 + self.random.below(3) as u8;
+        let test = match self.random.below(3) {
+            0 => Test::Not,
+            1 => Test::And,
+            _ => Test::Or,
+        };
         if !self.random.one_in(3) {
             return self.comparison(depth);
         }
-        self.write(&[tag])?;
+        self.tested(test)?;
         self.test(depth - 1)?;
-        if tag == 2 {
-            Ok(())
-        } else {
-            self.test(depth - 1)
+        match test {
+            Test::And | Test::Or => self.test(depth - 1),
+            _ => Ok(()),
         }
     }
 }

@@ -1,8 +1,12 @@
-// Writes random expressions and tests of a program as bytes.
+// Writes random programs as bytes.
 
 #![tactic(auto)]
 
 mod draft;
 mod expression;
+mod simple;
+mod statement;
+mod tags;
+mod whole;
 
-pub use draft::{Draft, LIMIT};
+pub use draft::Draft;
