@@ -9,7 +9,8 @@ ghost use Rattle.reader.specs.Request.{Reads};
 mod load;
 
 pub use load::Header;
-use load::{VARIABLES, read_header};
+use load::read_header;
+use program::VARIABLES;
 use scanner::byte_at;
 pub use scanner::read_number;
 
