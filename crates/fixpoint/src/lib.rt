@@ -2,7 +2,6 @@
 
 #![tactic(auto)]
 
-mod lists;
 mod rounds;
 
 pub use rounds::{next_state, round_limit, widen_state};

@@ -5,8 +5,8 @@ ghost use Rattle.analysis.specs.AbstractState.{widen};
 ghost use Rattle.state.specs.Of.{as_abstract};
 ghost use Rattle.fixpoint.specs.Rounds.{next_round};
 
-use crate::lists::widen_env;
 use state::Abstract;
+use thresholds::widen;
 
 // So many rounds are joined before widening begins.
 const JOINED: usize = 4;
@@ -25,13 +25,7 @@ pub fn widen_state(state: &mut Abstract, other: &Abstract, sorted: &[u64])
     ensures { IsNonDecreasing sorted.now →
         as_abstract state.new ≡ widen sorted.now (as_abstract state.old) (as_abstract other.now) }
 {
-    match other {
-        Abstract::Unreached => {}
-        Abstract::Reached(v) => match state {
-            Abstract::Unreached => *state = *other,
-            Abstract::Reached(w) => widen_env(w, v, sorted),
-        },
-    }
+    state.combine(other, |a, b| widen(a, b, sorted));
 }
 
 // The state goes on with what comes anew: joined in the first rounds, and from then on widened too.

@@ -1,7 +1,7 @@
 -- Lists of intervals of the code against those of the definitions: look-ups, writes, what is done interval by interval.
 -- Rests on the library's lemmas of lists alone.
-use Rattle.std.proofs.Common.{◌≡◌, ℕ, zero, suc, ◌+◌, ◌<◌, ◌≤◌, Bool, true, ◌&&◌, List, [], ◌∷◌, length, get_or, drop, set, sym, refl, arith}
-use Rattle.std.proofs.lemmas.List.{drop_more, drop_all, set_past, length-map}
+use Rattle.std.proofs.Common.{◌≡◌, ℕ, zero, suc, ◌<◌, ◌&&◌, List, [], ◌∷◌, length, get_or, refl, ap, arith}
+use Rattle.std.specs.List.{list_all, zip}
 use Rattle.interval.specs.Interval as plain
 use Rattle.interval.specs.Interval.{interval, within_interval}
 use Rattle.interval.specs.declared.types.Interval.{Interval}
@@ -16,12 +16,12 @@ nth_within [] i d h = absurd (omega arith)
 nth_within (s ∷ ss) zero d h = refl
 nth_within (s ∷ ss) (suc i) d h = nth_within ss i d (omega arith)
 
--- past the end it is 0 to 0
-pub nth_past : (ss : List Interval) (i : ℕ) → length ss ≤ i → interval 0 0 ≡ nth_interval (as_intervals ss) i
+-- what stands at a place, or 0 to 0 past the end
+pub nth_or : (ss : List Interval) (i : ℕ) (d : Interval) → as_interval d ≡ interval 0 0 → as_interval (get_or ss i d) ≡ nth_interval (as_intervals ss) i
 unfolding nth_interval
-nth_past [] i h = refl
-nth_past (s ∷ ss) zero h = absurd (omega arith)
-nth_past (s ∷ ss) (suc i) h = nth_past ss i (omega arith)
+nth_or [] i d h = h
+nth_or (s ∷ ss) zero d h = refl
+nth_or (s ∷ ss) (suc i) d h = nth_or ss i d h
 
 -- a list that has f of the two lists' intervals at each place is their zip
 pub zip_at : (f : plain.Interval → plain.Interval → plain.Interval) (rs ss ts : List Interval) → length rs ≡ length ss → length ss ≡ length ts →
@@ -35,18 +35,10 @@ zip_at f (r ∷ rs) (s ∷ ss) [] e g h = absurd (omega arith)
 zip_at f (r ∷ rs) (s ∷ ss) (t ∷ ts) e g h = let p = h 0 r (omega arith) in
     let q = zip_at f rs ss ts (omega arith) (omega arith) (λ k d l. h (suc k) d (omega arith)) in cc
 
--- a write past the end changes nothing
-pub unset_past : (ss : List Interval) (i : ℕ) (s : Interval) → length ss ≤ i → as_intervals ss ≡ set (as_intervals ss) i (as_interval s)
-unset_past ss i s h = sym (set_past (as_intervals ss) i (as_interval s) (rw length-map h))
-
--- what is ahead lies within if its first interval does and so does the rest
-pub within_step : (ss ts : List Interval) (i : ℕ) (s t : Interval) (w : Bool) → i < length ss → i < length ts → s ≡ get_or ss i s → t ≡ get_or ts i t →
-    w ≡ within_interval (as_interval s) (as_interval t) →
-    all_within (as_intervals (drop i ss)) (as_intervals (drop i ts)) ≡ (w && all_within (as_intervals (drop (i + 1) ss)) (as_intervals (drop (i + 1) ts)))
+-- of two lists of one length, all pairs lie within one another if the first list lies within the second
+pub within-zip : (ss ts : List Interval) → length ss ≡ length ts →
+    list_all (λ (p : Interval × Interval). within_interval (as_interval p.0) (as_interval p.1)) (zip ss ts) ≡ all_within (as_intervals ss) (as_intervals ts)
 unfolding all_within
-within_step ss ts i s t w l m p q e = rw (drop_more ss i s l, drop_more ts i t m, ← p, ← q, e) refl
-
--- no interval is ahead
-pub within_end : (ss ts : List Interval) (i : ℕ) → length ss ≤ i → true ≡ all_within (as_intervals (drop i ss)) (as_intervals (drop i ts))
-unfolding all_within
-within_end ss ts i h = rw (drop_all i ss h) refl
+within-zip [] ts e = refl
+within-zip (s ∷ ss) [] e = absurd (omega arith)
+within-zip (s ∷ ss) (t ∷ ts) e = ap (λ b. within_interval (as_interval s) (as_interval t) && b) (within-zip ss ts (omega arith))

@@ -1,2 +1,1 @@
 pub mod Intervals
-pub mod States

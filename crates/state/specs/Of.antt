@@ -1,5 +1,5 @@
 -- What the states of the code stand for. Assumes nothing: these are definitions.
-use Rattle.std.specs.Prelude.{List, map}
+use Rattle.std.specs.Prelude.{◌≡◌, List, map}
 use Rattle.interval.specs.Interval as plain_interval
 use Rattle.interval.specs.declared.types.Interval.{Interval}
 use Rattle.interval.specs.Of.{as_interval}
@@ -21,3 +21,7 @@ as_env w = record { values = as_intervals w.values; arrays = as_intervals w.arra
 abbrev pub as_abstract : Abstract → plain.Abstract
 as_abstract Unreached = unreached
 as_abstract (Reached w) = reached (as_env w)
+
+-- what a call leaves of two intervals of the code stands for op of those that they stand for
+abbrev pub Computes : (Interval → Interval → Interval → Type 0) → (plain_interval.Interval → plain_interval.Interval → plain_interval.Interval) → Type 0
+Computes post op = (a b r : Interval) → post a b r → as_interval r ≡ op (as_interval a) (as_interval b)

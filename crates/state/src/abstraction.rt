@@ -1,50 +1,25 @@
 // Abstract states, changed in place: nothing is done where nothing comes.
 ghost use Rattle.std.specs.Prelude.{◌≡◌};
-ghost use Rattle.interval.specs.Interval.{interval};
+ghost use Rattle.interval.specs.Interval.{Interval as PlainInterval, interval};
 ghost use Rattle.interval.specs.Of.{as_interval};
 ghost use Rattle.analysis.specs.Reach.{reached};
-ghost use Rattle.analysis.specs.AbstractState.{join, within};
-ghost use Rattle.state.specs.Of.{as_abstract};
+ghost use Rattle.analysis.specs.AbstractState.{merge, join, within};
+ghost use Rattle.state.specs.Of.{as_abstract, Computes};
 ghost use Rattle.state.specs.Change.{initial_env, variable_in, array_in, put_in, store_in, cut_in};
 
 use crate::types::{Abstract, Env};
 use interval::Interval;
-
-// What either holds.
-fn join_states(a: &mut Abstract, b: &Abstract)
-    ensures { as_abstract a.new ≡ join (as_abstract a.old) (as_abstract b.now) }
-{
-    match b {
-        Abstract::Unreached => {}
-        Abstract::Reached(v) => match a {
-            Abstract::Unreached => *a = *b,
-            Abstract::Reached(w) => w.join(v),
-        },
-    }
-}
-
-// Whether the second holds all that the first holds.
-fn state_within(a: &Abstract, b: &Abstract) -> bool
-    ensures { result ≡ within (as_abstract a.now) (as_abstract b.now) }
-{
-    match a {
-        Abstract::Unreached => true,
-        Abstract::Reached(w) => match b {
-            Abstract::Unreached => false,
-            Abstract::Reached(v) => w.lies_within(v),
-        },
-    }
-}
+use program::{ARRAYS, VARIABLES};
 
 impl Abstract {
     // All variables and elements are 0.
     pub fn initial() -> Abstract
         ensures { as_abstract result ≡ reached initial_env }
     {
-        let zero = Interval { lo: 0, hi: 0 };
+        let zero = Interval::zero();
         Abstract::Reached(Env {
-            values: [zero; 64],
-            arrays: [zero; 16],
+            values: [zero; VARIABLES as usize],
+            arrays: [zero; ARRAYS as usize],
         })
     }
 
@@ -53,7 +28,7 @@ impl Abstract {
         ensures { as_interval result ≡ variable_in (as_abstract self.now) x }
     {
         match self {
-            Abstract::Unreached => Interval { lo: 0, hi: 0 },
+            Abstract::Unreached => Interval::zero(),
             Abstract::Reached(w) => w.variable(x),
         }
     }
@@ -63,7 +38,7 @@ impl Abstract {
         ensures { as_interval result ≡ array_in (as_abstract self.now) r }
     {
         match self {
-            Abstract::Unreached => Interval { lo: 0, hi: 0 },
+            Abstract::Unreached => Interval::zero(),
             Abstract::Reached(w) => w.array(r),
         }
     }
@@ -72,9 +47,8 @@ impl Abstract {
     pub fn put(&mut self, x: usize, s: Interval)
         ensures { as_abstract self.new ≡ put_in (as_abstract self.old) x (as_interval s) }
     {
-        match self {
-            Abstract::Unreached => {}
-            Abstract::Reached(w) => w.put(x, s),
+        if let Abstract::Reached(w) = self {
+            w.put(x, s);
         }
     }
 
@@ -82,9 +56,8 @@ impl Abstract {
     pub fn store(&mut self, r: usize, s: Interval)
         ensures { as_abstract self.new ≡ store_in (as_abstract self.old) r (as_interval s) }
     {
-        match self {
-            Abstract::Unreached => {}
-            Abstract::Reached(w) => w.store(r, s),
+        if let Abstract::Reached(w) = self {
+            w.store(r, s);
         }
     }
 
@@ -92,13 +65,25 @@ impl Abstract {
     pub fn cut(&mut self, x: Option<usize>, low: u64, high: u64)
         ensures { as_abstract self.new ≡ cut_in x (as_abstract self.old) (interval low high) }
     {
-        let Some(x) = x else { return };
-        match self {
-            Abstract::Unreached => {}
-            Abstract::Reached(w) => match w.variable(x).cut(low, high) {
+        if let (Some(x), Abstract::Reached(w)) = (x, &mut *self) {
+            match w.variable(x).cut(low, high) {
                 None => *self = Abstract::Unreached,
                 Some(s) => w.put(x, s),
-            },
+            }
+        }
+    }
+
+    // Interval by interval, what `f` makes of both; what one holds where nothing comes in the other.
+    #[tactic(auto, unfolding(analysis::specs::AbstractState::merge))]
+    pub fn combine<F: Fn(Interval, Interval) -> Interval + Copy>(&mut self, other: &Abstract, f: F)
+        requires { F.IsAlwaysCallable f }
+        ensures { (op : PlainInterval → PlainInterval → PlainInterval) → Computes (F.post f) op →
+            as_abstract self.new ≡ merge op (as_abstract self.old) (as_abstract other.now) }
+    {
+        let Abstract::Reached(v) = other else { return };
+        match self {
+            Abstract::Unreached => *self = *other,
+            Abstract::Reached(w) => w.combine(v, f),
         }
     }
 
@@ -106,13 +91,18 @@ impl Abstract {
     pub fn join(&mut self, other: &Abstract)
         ensures { as_abstract self.new ≡ join (as_abstract self.old) (as_abstract other.now) }
     {
-        join_states(self, other);
+        self.combine(other, Interval::join);
     }
 
     // Whether the other holds all that this holds.
+    #[tactic(auto, unfolding(analysis::specs::AbstractState::within))]
     pub fn lies_within(&self, other: &Abstract) -> bool
         ensures { result ≡ within (as_abstract self.now) (as_abstract other.now) }
     {
-        state_within(self, other)
+        match (self, other) {
+            (Abstract::Unreached, _) => true,
+            (Abstract::Reached(_), Abstract::Unreached) => false,
+            (Abstract::Reached(w), Abstract::Reached(v)) => w.lies_within(v),
+        }
     }
 }

@@ -1,12 +1,12 @@
 // What is known of variables and arrays, changed in place.
 ghost use Rattle.std.specs.Prelude.{◌≡◌};
-ghost use Rattle.interval.specs.Interval.{join_interval};
+ghost use Rattle.interval.specs.Interval.{Interval as PlainInterval, join_interval};
 ghost use Rattle.interval.specs.Of.{as_interval};
 ghost use Rattle.analysis.specs.AbstractState.{nth_interval, zip_env};
-ghost use Rattle.state.specs.Of.{as_env};
+ghost use Rattle.state.specs.Of.{as_env, Computes};
 ghost use Rattle.state.specs.Change.{with_variable, with_stored, env_within};
 
-use crate::lists::{interval_at, join_into, lists_within, put_at};
+use crate::lists::{combine_into, interval_at, lists_within, put_at};
 use crate::types::Env;
 use interval::Interval;
 
@@ -44,8 +44,17 @@ impl Env {
     pub fn join(&mut self, other: &Env)
         ensures { as_env self.new ≡ zip_env join_interval (as_env self.old) (as_env other.now) }
     {
-        join_into(&mut self.values, &other.values);
-        join_into(&mut self.arrays, &other.arrays);
+        self.combine(other, Interval::join);
+    }
+
+    // Interval by interval, what `f` makes of both.
+    pub fn combine<F: Fn(Interval, Interval) -> Interval + Copy>(&mut self, other: &Env, f: F)
+        requires { F.IsAlwaysCallable f }
+        ensures { (op : PlainInterval → PlainInterval → PlainInterval) → Computes (F.post f) op →
+            as_env self.new ≡ zip_env op (as_env self.old) (as_env other.now) }
+    {
+        combine_into(&mut self.values, &other.values, f);
+        combine_into(&mut self.arrays, &other.arrays, f);
     }
 
     // Whether each interval lies within that of the other.

@@ -1,9 +1,9 @@
 // Lists of intervals: look-ups that answer 0 to 0 past the end, writes that change nothing there, and what is done interval by interval.
 ghost use Rattle.std.specs.Prelude.{◌≡◌, length, slice_set};
-ghost use Rattle.interval.specs.Interval.{join_interval};
+ghost use Rattle.interval.specs.Interval.{Interval as PlainInterval};
 ghost use Rattle.interval.specs.Of.{as_interval};
 ghost use Rattle.analysis.specs.AbstractState.{nth_interval, zip_with, all_within};
-ghost use Rattle.state.specs.Of.{as_intervals};
+ghost use Rattle.state.specs.Of.{as_intervals, Computes};
 
 use interval::Interval;
 
@@ -11,13 +11,10 @@ use interval::Interval;
 pub fn interval_at(list: &[Interval], i: usize) -> Interval
     ensures { as_interval result ≡ nth_interval (as_intervals list.now) i }
 {
-    if i < list.len() {
-        return list[i];
-    }
-    Interval { lo: 0, hi: 0 }
+    list.get(i).copied().unwrap_or(Interval::zero())
 }
 
-// Writes an interval at a place; past the end nothing changes.
+// Writes an interval at a place; past the end nothing changes. By index: a proof knows nothing of a list's elements after `get_mut`.
 pub fn put_at(list: &mut [Interval], i: usize, s: Interval)
     ensures { as_intervals list.new ≡ slice_set (as_intervals list.old) i (as_interval s) }
 {
@@ -26,13 +23,20 @@ pub fn put_at(list: &mut [Interval], i: usize, s: Interval)
     }
 }
 
-// Joins each interval with the one at its place in the other list.
-pub fn join_into(list: &mut [Interval], other: &[Interval])
-    requires { length list.old ≡ length other.now }
-    ensures { as_intervals list.new ≡ zip_with join_interval (as_intervals list.old) (as_intervals other.now) }
+// Puts what `f` makes of each interval and the one at its place in the other list. By index: a proof knows nothing of a list's elements
+// after a loop over its `iter_mut` in a `zip`.
+pub fn combine_into<F: Fn(Interval, Interval) -> Interval>(
+    list: &mut [Interval],
+    other: &[Interval],
+    f: F,
+)
+    requires same_length { length list.old ≡ length other.now }
+    requires callable { F.IsAlwaysCallable f }
+    ensures { (op : PlainInterval → PlainInterval → PlainInterval) → Computes (F.post f) op →
+        as_intervals list.new ≡ zip_with op (as_intervals list.old) (as_intervals other.now) }
 {
-    for i in 0..other.len() {
-        list[i] = list[i].join(other[i]);
+    for (i, b) in other.iter().enumerate() {
+        list[i] = f(list[i], *b);
     }
 }
 
@@ -41,10 +45,5 @@ pub fn lists_within(list: &[Interval], other: &[Interval]) -> bool
     requires { length list.now ≡ length other.now }
     ensures { result ≡ all_within (as_intervals list.now) (as_intervals other.now) }
 {
-    for i in 0..list.len() {
-        if !list[i].within(other[i]) {
-            return false;
-        }
-    }
-    true
+    list.iter().zip(other).all(|(a, b)| a.within(*b))
 }

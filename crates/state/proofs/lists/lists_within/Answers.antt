@@ -1,19 +1,15 @@
--- What is ahead decides: its first interval, then the rest.
-use Rattle.std.proofs.Common.{sym, ◌∙◌, arith}
-use Rattle.state.proofs.Intervals.{within_step, within_end}
+-- The chain's answer is that all pairs lie within one another.
+use Rattle.std.proofs.Common.{◌∙◌, rules}
+use Rattle.std.proofs.lemmas.Iterator.{YieldsList-from_slice, YieldsList-from_zip}
+use Rattle.std.proofs.lemmas.Iterator.Search.{all_from_yields_List}
+use Rattle.interval.specs.Interval.{within_interval}
+use Rattle.interval.specs.Of.{as_interval}
+use Rattle.state.proofs.Intervals.{within-zip}
 use Rattle.state.proofs.lists.lists_within.Goals as goal
-
-pub returns-then-not-within : goal.returns-then-not-within
-returns-then-not-within c =
-    sym (within_step c.args.list.now c.args.other.now c.loop-i.i _ _ _ (omega arith) (omega arith)
-    c.index-list-i.is c.index-other-i.is c.if-not-within.ensures)
-    ∙ c.loop-i.invariant
-
-pub loop-i-preserved : goal.loop-i-preserved
-loop-i-preserved c =
-    sym (within_step c.args.list.now c.args.other.now c.loop-i.i _ _ _ (omega arith) (omega arith)
-    c.index-list-i.is c.index-other-i.is c.if-not-within.ensures)
-    ∙ c.loop-i.invariant
+use borrow.Author.Tests.{tests}
 
 pub returns : goal.returns
-returns c = within_end c.args.list.now c.args.other.now c.loop-i.i c.loop-i-test.false ∙ c.loop-i.invariant
+returns c =
+    let pairs = YieldsList-from_zip {s = c.zip.result} (YieldsList-from_slice c.args.list.now cc) (YieldsList-from_slice c.args.other.now cc) in
+    all_from_yields_List (λ p. within_interval (as_interval p.0) (as_interval p.1)) c.all.new.self _ c.all.result c.all.ensures.ran pairs (λ x b q k. search (rules, tests))
+    ∙ within-zip c.args.list.now c.args.other.now c.requires

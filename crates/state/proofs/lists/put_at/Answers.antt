@@ -1,11 +1,7 @@
--- A write within the list is a write of what it stands for; past the end nothing changes.
+-- A write within the list is a write of what it stands for.
 use Rattle.interval.specs.Of.{as_interval}
 use Rattle.std.proofs.lemmas.List.{map-set}
-use Rattle.state.proofs.Intervals.{unset_past}
 use Rattle.state.proofs.lists.put_at.Goals as goal
 
 pub returns-then-i-list : goal.returns-then-i-list
 returns-then-i-list c = map-set as_interval c.args.list.now c.args.i c.args.s
-
-pub returns-else-i-list : goal.returns-else-i-list
-returns-else-i-list c = unset_past c.args.list.now c.args.i c.args.s c.if-i-list.false
