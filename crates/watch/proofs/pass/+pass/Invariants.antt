@@ -1,11 +1,14 @@
-use Rattle.std.proofs.Common.{◌+◌, ◌*◌}
-use Rattle.watch.proofs.pass.+branch_at_loop_at_pass_at.Given as goal
+use Rattle.std.proofs.Common.{◌+◌, ◌-◌, ◌*◌}
+use Rattle.watch.proofs.pass.+pass.Given as goal
 
 abbrev pub decreases-pass_at : goal.decreases-pass_at
-decreases-pass_at l = 2 * l.left
+decreases-pass_at l = 3 * l.left
+
+abbrev pub decreases-numbered_at : goal.decreases-numbered_at
+decreases-numbered_at l = 3 * l.left - 1
 
 abbrev pub decreases-branch_at : goal.decreases-branch_at
-decreases-branch_at l = 2 * l.left + 1
+decreases-branch_at l = 3 * l.left + 1
 
 abbrev pub decreases-loop_at : goal.decreases-loop_at
-decreases-loop_at l = 2 * l.left + 1
+decreases-loop_at l = 3 * l.left + 1
