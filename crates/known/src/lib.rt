@@ -18,7 +18,7 @@ use reader::{Header, Request, read_command};
 use state::Abstract;
 use thresholds::collect;
 use walker::Task;
-use watch::watch_at;
+use watch::{Watch, watch_at};
 
 // A program has at most so many thresholds.
 const THRESHOLDS: usize = 11000;
@@ -41,9 +41,10 @@ fn watch_body<'a>(
         thresholds,
         rounds,
     };
+    let watch = Watch { task, stmt };
     let mut state = Abstract::initial();
     let mut seen = Abstract::Unreached;
-    let _ = watch_at(&task, stmt, body, text.len(), &mut state, &mut seen);
+    let _ = watch_at(&watch, body, text.len(), &mut state, &mut seen);
     seen
 }
 

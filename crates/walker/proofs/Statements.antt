@@ -1,5 +1,5 @@
 -- Passes through statements without parts, from what the code reads, evaluates and marks.
-use Rattle.std.proofs.Common.{◌≡◌, ℕ, ◌+◌, ◌<◌, ◌≤◌, true, false, ltb, leb, List, [], ◌∷◌, length, get_or, sym, refl, ap, ◌∙◌, subst, append-nil, arith, ltb-true, leb-true}
+use Rattle.std.proofs.Common.{◌≡◌, ℕ, ◌+◌, ◌<◌, ◌≤◌, true, false, ltb, leb, List, [], ◌∷◌, length, get_or, sym, refl, ap, ◌∙◌, subst, append-nil, arith, ltb-true, leb-true, Some, None}
 use Rattle.std.proofs.lemmas.Bool.{and_parts}
 use Rattle.std.proofs.lemmas.Bool.Decides.{nat_tests}
 use Rattle.program.specs.Basics.{eight, larger, limit}
@@ -15,8 +15,7 @@ use Rattle.interval.specs.Arithmetic.{EvalResult as PlainResult}
 use Rattle.interval.specs.declared.types.Interval.{Interval}
 use Rattle.interval.specs.declared.types.Faults.{Faults}
 use Rattle.interval.specs.declared.types.EvalResult.{EvalResult}
-use Rattle.interval.specs.declared.types.EvalResult.TheVariants.{Value, Never}
-use Rattle.interval.specs.Of.{as_interval, Faulty, faults_or, Says}
+use Rattle.interval.specs.Of.{as_interval, as_intervals, Faulty, faults_or, Says}
 use Rattle.interval.proofs.Combining.{faulty_or}
 use Rattle.analysis.specs.Reach.{unreached, reached, bind, faults_in, alarms_at}
 use Rattle.analysis.specs.AbstractState.{Env, Abstract, within}
@@ -117,22 +116,22 @@ module _ (ns ms : List ℕ) (n : ℕ) (text : List ℕ) (pos left : ℕ) (d : St
       subst (λ (x : Stmt). Walked (pos + length (encode_stmt d)) ns ms n h t h₁ t₁ x r) (sym s.is)
       (walked_assign ns ms n (pos + length (encode_stmt d)) s.p s.v s.e h h₁ t t₁ r out m (omega (arith, end, s.long)))
 
-  pub assign_value_walked : (s : AssignAt text pos d) (h h₁ : Abstract) (t t₁ : List ℕ) (stmt x : ℕ) (r : Evaluated) (i : Interval) (f : Faults) →
+  pub assign_value_walked : (s : AssignAt text pos d) (h h₁ : Abstract) (t t₁ : List ℕ) (stmt x : ℕ) (r : Evaluated) (i : Interval) →
       (pos + 1 + 8 ≤ length text → stmt ≡ word_at text (pos + 1)) → x ≡ get_or text (pos + 9) 0 →
-      Evaluates (pos + 10 + length (encode_expr s.e)) (eval_here ns h s.e) r → r.result ≡ Value i f → h₁ ≡ put_in h x (as_interval i) →
-      ((ks : List ℕ) → Faulty f ks → Marked (alarms_at stmt ks) t t₁) → Walked (pos + length (encode_stmt d)) ns ms n h t h₁ t₁ d r.end
-  assign_value_walked s h h₁ t t₁ stmt x r i f number at_x found is out marks =
-      let says = subst (λ (y : EvalResult). Says y (eval_here ns h s.e)) is found.result in
-      assign_by s h h₁ t t₁ stmt f r.end number
-      (out ∙ ap (λ (y : ℕ). put_in h y (as_interval i)) (at_x ∙ s.v_is) ∙ put_value ns s.v s.e h (as_interval i) says.0) says.1 marks found.end
+      Evaluates (pos + 10 + length (encode_expr s.e)) (eval_here ns h s.e) r → r.result.interval ≡ Some i → h₁ ≡ put_in h x (as_interval i) →
+      ((ks : List ℕ) → Faulty r.result.faults ks → Marked (alarms_at stmt ks) t t₁) → Walked (pos + length (encode_stmt d)) ns ms n h t h₁ t₁ d r.end
+  assign_value_walked s h h₁ t t₁ stmt x r i number at_x found is out marks =
+      let there = found.result.intervals ∙ ap as_intervals is in
+      assign_by s h h₁ t t₁ stmt r.result.faults r.end number
+      (out ∙ ap (λ (y : ℕ). put_in h y (as_interval i)) (at_x ∙ s.v_is) ∙ put_value ns s.v s.e h (as_interval i) there) found.result.faults marks found.end
 
-  pub assign_never_walked : (s : AssignAt text pos d) (h : Abstract) (t t₁ : List ℕ) (stmt : ℕ) (r : Evaluated) (f : Faults) →
+  pub assign_never_walked : (s : AssignAt text pos d) (h : Abstract) (t t₁ : List ℕ) (stmt : ℕ) (r : Evaluated) →
       (pos + 1 + 8 ≤ length text → stmt ≡ word_at text (pos + 1)) →
-      Evaluates (pos + 10 + length (encode_expr s.e)) (eval_here ns h s.e) r → r.result ≡ Never f →
-      ((ks : List ℕ) → Faulty f ks → Marked (alarms_at stmt ks) t t₁) → Walked (pos + length (encode_stmt d)) ns ms n h t unreached t₁ d r.end
-  assign_never_walked s h t t₁ stmt r f number found is marks =
-      let says = subst (λ (y : EvalResult). Says y (eval_here ns h s.e)) is found.result in
-      assign_by s h unreached t t₁ stmt f r.end number (put_nothing ns s.v s.e h says.0) says.1 marks found.end
+      Evaluates (pos + 10 + length (encode_expr s.e)) (eval_here ns h s.e) r → r.result.interval ≡ None →
+      ((ks : List ℕ) → Faulty r.result.faults ks → Marked (alarms_at stmt ks) t t₁) → Walked (pos + length (encode_stmt d)) ns ms n h t unreached t₁ d r.end
+  assign_never_walked s h t t₁ stmt r number found is marks =
+      assign_by s h unreached t t₁ stmt r.result.faults r.end number (put_nothing ns s.v s.e h (found.result.intervals ∙ ap as_intervals is))
+      found.result.faults marks found.end
 
   pub store_number : (s : StoreAt text pos d) → Low s.p
   unfolding stmt_numbers
@@ -150,24 +149,23 @@ module _ (ns ms : List ℕ) (n : ℕ) (text : List ℕ) (pos left : ℕ) (d : St
       subst (λ (x : Stmt). Walked (pos + length (encode_stmt d)) ns ms n h t h₁ t₁ x r) (sym s.is)
       (walked_store ns ms n (pos + length (encode_stmt d)) s.p s.r s.a s.e h h₁ t t₁ r out m (omega (arith, end, s.long)))
 
-  pub store_value_walked : (s : StoreAt text pos d) (h h₁ : Abstract) (t t₁ : List ℕ) (stmt x r : ℕ) (y : EvalResult) (i : Interval) (f : Faults) →
+  pub store_value_walked : (s : StoreAt text pos d) (h h₁ : Abstract) (t t₁ : List ℕ) (stmt x r : ℕ) (y : EvalResult) (i : Interval) →
       (pos + 1 + 8 ≤ length text → stmt ≡ word_at text (pos + 1)) → x ≡ s.r →
-      Says y (store_result (get_or ns s.r 0) (eval_here ns h s.a) (eval_here ns h s.e)) → y ≡ Value i f → h₁ ≡ store_in h x (as_interval i) →
-      ((ks : List ℕ) → Faulty f ks → Marked (alarms_at stmt ks) t t₁) → r ≡ pos + 10 + length (encode_expr s.a) + length (encode_expr s.e) →
+      Says y (store_result (get_or ns s.r 0) (eval_here ns h s.a) (eval_here ns h s.e)) → y.interval ≡ Some i → h₁ ≡ store_in h x (as_interval i) →
+      ((ks : List ℕ) → Faulty y.faults ks → Marked (alarms_at stmt ks) t t₁) → r ≡ pos + 10 + length (encode_expr s.a) + length (encode_expr s.e) →
       Walked (pos + length (encode_stmt d)) ns ms n h t h₁ t₁ d r
-  store_value_walked s h h₁ t t₁ stmt x r y i f number at_x found is out marks end =
-      let says = subst (λ (z : EvalResult). Says z (store_result (get_or ns s.r 0) (eval_here ns h s.a) (eval_here ns h s.e))) is found in
-      store_by s h h₁ t t₁ stmt f r number
-      (out ∙ ap (λ (z : ℕ). store_in h z (as_interval i)) at_x ∙ store_value_in ns s.r s.a s.e h (as_interval i) says.0) says.1 marks end
+  store_value_walked s h h₁ t t₁ stmt x r y i number at_x found is out marks end =
+      store_by s h h₁ t t₁ stmt y.faults r number
+      (out ∙ ap (λ (z : ℕ). store_in h z (as_interval i)) at_x
+      ∙ store_value_in ns s.r s.a s.e h (as_interval i) (found.intervals ∙ ap as_intervals is)) found.faults marks end
 
-  pub store_never_walked : (s : StoreAt text pos d) (h : Abstract) (t t₁ : List ℕ) (stmt r : ℕ) (y : EvalResult) (f : Faults) →
+  pub store_never_walked : (s : StoreAt text pos d) (h : Abstract) (t t₁ : List ℕ) (stmt r : ℕ) (y : EvalResult) →
       (pos + 1 + 8 ≤ length text → stmt ≡ word_at text (pos + 1)) →
-      Says y (store_result (get_or ns s.r 0) (eval_here ns h s.a) (eval_here ns h s.e)) → y ≡ Never f →
-      ((ks : List ℕ) → Faulty f ks → Marked (alarms_at stmt ks) t t₁) → r ≡ pos + 10 + length (encode_expr s.a) + length (encode_expr s.e) →
+      Says y (store_result (get_or ns s.r 0) (eval_here ns h s.a) (eval_here ns h s.e)) → y.interval ≡ None →
+      ((ks : List ℕ) → Faulty y.faults ks → Marked (alarms_at stmt ks) t t₁) → r ≡ pos + 10 + length (encode_expr s.a) + length (encode_expr s.e) →
       Walked (pos + length (encode_stmt d)) ns ms n h t unreached t₁ d r
-  store_never_walked s h t t₁ stmt r y f number found is marks end =
-      let says = subst (λ (z : EvalResult). Says z (store_result (get_or ns s.r 0) (eval_here ns h s.a) (eval_here ns h s.e))) is found in
-      store_by s h unreached t t₁ stmt f r number (store_nothing_in ns s.r s.a s.e h says.0) says.1 marks end
+  store_never_walked s h t t₁ stmt r y number found is marks end =
+      store_by s h unreached t t₁ stmt y.faults r number (store_nothing_in ns s.r s.a s.e h (found.intervals ∙ ap as_intervals is)) found.faults marks end
 
   -- what the index and the value come to together, from what was found of each
   pub store_found : (s : StoreAt text pos d) (h : Abstract) (x len : ℕ) (i v y : EvalResult) → x ≡ get_or text (pos + 9) 0 → len ≡ get_or ns x 0 →

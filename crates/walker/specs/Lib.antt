@@ -2,3 +2,4 @@ pub mod Table
 pub mod Ready
 pub mod Walk
 pub mod Store
+pub mod Pass

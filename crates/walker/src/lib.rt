@@ -7,5 +7,5 @@ mod simple;
 mod table;
 mod types;
 
-pub use pass::{Round, analyse_at, settle_at};
-pub use types::Task;
+pub use pass::{analyse_at, settle_at};
+pub use types::{Round, Task};

@@ -1,50 +1,37 @@
 // The pass through a statement by recursion over its bytes. What is known is one state that is lent down; a call of the recursion holds
-// numbers only, and states are held by value only at branches, loops and tests.
-ghost use Rattle.std.specs.Prelude.{◌≡◌, ℕ, ◌+◌, ◌<◌, List, length, slice_index};
-ghost use Rattle.std.specs.List.Sorted.{IsNonDecreasing};
-ghost use Rattle.program.specs.Syntax.{Test, Stmt, branch, loop};
-ghost use Rattle.program.specs.Encoding.{encode_test, encode_stmt};
-ghost use Rattle.evaluate.specs.Ready.{TestReady};
-ghost use Rattle.state.specs.Of.{as_abstract};
-ghost use Rattle.walker.specs.Ready.{StmtReady, HasNumber};
-ghost use Rattle.walker.specs.Walk.{Walked, Settled, Rounded};
+// numbers only, and states are held by value only at branches, loops and tests. A struct of what is handed down would be made anew at each
+// call, since the position changes with each, and the state at choices and loops. The first byte of a statement says what it is; it is read
+// here alone, so an enum of these bytes would be one more match over the same numbers.
+ghost use Rattle.std.specs.Prelude.{◌<◌, length, slice_index};
+ghost use Rattle.program.specs.Syntax.{branch, loop};
+ghost use Rattle.walker.specs.Ready.{HasNumber};
+ghost use Rattle.walker.specs.Pass.{AtStmt, AtLoop, AtBranch, Walks, Settles, GoesRound};
 
 use crate::simple::simple_at;
 use crate::table::mark_faults;
-use crate::types::Task;
+use crate::types::{Round, Task};
 use bytes_at::word_at;
 use evaluate::test_at;
 use fixpoint::next_state;
 use state::Abstract;
 
-// What a loop's rounds come to, and where its body ends.
-#[derive(Clone, Copy)]
-pub struct Round {
-    pub state: Abstract,
-    pub end: usize,
-}
-
 // One round with recording off: what came first, joined with what the body makes of `start` where the test holds.
-#[cycle(branch_at_iterate_at_loop_at_round_at_walk_at)]
+#[cycle(pass)]
 fn round_at(task: &Task, pos: usize, left: usize, first: &Abstract, start: &Abstract) -> Round
-    ensures { (t : Test) (a : Stmt) → IsNonDecreasing task.now.thresholds.now → TestReady task.now.text.now pos left t → StmtReady task.now.text.now (pos + length (encode_test t)) left a →
-        Rounded (pos + length (encode_test t) + length (encode_stmt a)) task.now.lengths.now task.now.thresholds.now task.now.rounds t a
-        (as_abstract first.now) (as_abstract start.now) (as_abstract result.state) result.end }
+    ensures { AtLoop task.now pos left (λ t a stop. GoesRound task.now stop t a first.now start.now result) }
 {
     let ways = test_at(task.text, pos, left, start, task.lengths);
     let mut state = ways.yes;
-    let mut none: [u64; 0] = [];
-    let end = walk_at(task, ways.end, left, &mut state, &mut none);
+    let end = walk_at(task, ways.end, left, &mut state, &mut []);
     state.join(first);
     Round { state, end }
 }
 
-// Rounds until nothing new comes: joined at first, then widened.
-#[cycle(branch_at_iterate_at_loop_at_round_at_walk_at)]
-fn iterate_at(task: &Task, pos: usize, left: usize, first: &Abstract) -> Round
-    ensures { (t : Test) (a : Stmt) → IsNonDecreasing task.now.thresholds.now → TestReady task.now.text.now pos left t → StmtReady task.now.text.now (pos + length (encode_test t)) left a →
-        Settled (pos + length (encode_test t) + length (encode_stmt a)) task.now.lengths.now task.now.thresholds.now task.now.rounds t a
-        (as_abstract first.now) (as_abstract result.state) result.end }
+// What is known at the head of the loop whose test stands at `pos`, once its rounds bring nothing new: joined at first, then widened; and
+// where its body ends.
+#[cycle(pass)]
+pub fn settle_at(task: &Task, pos: usize, left: usize, first: &Abstract) -> Round
+    ensures { AtLoop task.now pos left (λ t a stop. Settles task.now stop t a first.now result) }
 {
     let mut state = *first;
     let mut end = pos;
@@ -60,7 +47,7 @@ fn iterate_at(task: &Task, pos: usize, left: usize, first: &Abstract) -> Round
 }
 
 // A loop: the alarms of its body are those of the last state. With recording off the body is not gone through once more.
-#[cycle(branch_at_iterate_at_loop_at_round_at_walk_at)]
+#[cycle(pass)]
 fn loop_at(
     task: &Task,
     stmt: u64,
@@ -69,13 +56,11 @@ fn loop_at(
     state: &mut Abstract,
     alarms: &mut [u64],
 ) -> usize
-    ensures { (t : Test) (a : Stmt) → IsNonDecreasing task.now.thresholds.now → TestReady task.now.text.now pos left t → StmtReady task.now.text.now (pos + length (encode_test t)) left a →
-        Walked (pos + length (encode_test t) + length (encode_stmt a)) task.now.lengths.now task.now.thresholds.now task.now.rounds
-        (as_abstract state.old) alarms.old (as_abstract state.new) alarms.new (loop stmt t a) result }
+    ensures { AtLoop task.now pos left (λ t a stop. Walks task.now stop (loop stmt t a) state.old alarms.old state.new alarms.new result) }
 {
-    let settled = iterate_at(task, pos, left, state);
+    let settled = settle_at(task, pos, left, state);
     let ways = test_at(task.text, pos, left, &settled.state, task.lengths);
-    if alarms.len() == 0 && task.rounds > 0 {
+    if alarms.is_empty() && task.rounds > 0 {
         *state = ways.no;
         return settled.end;
     }
@@ -87,7 +72,7 @@ fn loop_at(
 }
 
 // A choice: both ways, then joined.
-#[cycle(branch_at_iterate_at_loop_at_round_at_walk_at)]
+#[cycle(pass)]
 fn branch_at(
     task: &Task,
     stmt: u64,
@@ -96,10 +81,7 @@ fn branch_at(
     state: &mut Abstract,
     alarms: &mut [u64],
 ) -> usize
-    ensures { (t : Test) (a b : Stmt) → IsNonDecreasing task.now.thresholds.now → TestReady task.now.text.now pos left t → StmtReady task.now.text.now (pos + length (encode_test t)) left a →
-        StmtReady task.now.text.now (pos + length (encode_test t) + length (encode_stmt a)) left b →
-        Walked (pos + length (encode_test t) + length (encode_stmt a) + length (encode_stmt b)) task.now.lengths.now task.now.thresholds.now task.now.rounds
-        (as_abstract state.old) alarms.old (as_abstract state.new) alarms.new (branch stmt t a b) result }
+    ensures { AtBranch task.now pos left (λ t a b stop. Walks task.now stop (branch stmt t a b) state.old alarms.old state.new alarms.new result) }
 {
     let ways = test_at(task.text, pos, left, state, task.lengths);
     mark_faults(alarms, stmt, ways.faults);
@@ -114,7 +96,7 @@ fn branch_at(
 // A choice, a loop or a statement without parts: its end. It stands apart from `walk_at`, which calls it at two places: a compiler that puts a
 // function called once into its caller would give the room that choices and loops need to each frame of sequences in each other, of which
 // there may be 16,379.
-#[cycle(branch_at_iterate_at_loop_at_round_at_walk_at)]
+#[cycle(pass)]
 fn numbered_at(
     task: &Task,
     pos: usize,
@@ -124,9 +106,8 @@ fn numbered_at(
 ) -> usize
     requires inside { pos < length task.now.text.now }
     requires room { 0 < left }
-    ensures { (d : Stmt) → IsNonDecreasing task.now.thresholds.now → StmtReady task.now.text.now pos left d → HasNumber (slice_index task.now.text.now pos) →
-        Walked (pos + length (encode_stmt d)) task.now.lengths.now task.now.thresholds.now task.now.rounds
-        (as_abstract state.old) alarms.old (as_abstract state.new) alarms.new d result }
+    ensures { HasNumber (slice_index task.now.text.now pos) →
+        AtStmt task.now pos left (λ d stop. Walks task.now stop d state.old alarms.old state.new alarms.new result) }
 {
     match task.text[pos] {
         6 => branch_at(
@@ -150,11 +131,9 @@ fn numbered_at(
 }
 
 // The statement at `pos`, of at most `left` bytes: its end.
-#[cycle(branch_at_iterate_at_loop_at_round_at_walk_at)]
+#[cycle(pass)]
 fn walk_at(task: &Task, pos: usize, left: usize, state: &mut Abstract, alarms: &mut [u64]) -> usize
-    ensures { (d : Stmt) → IsNonDecreasing task.now.thresholds.now → StmtReady task.now.text.now pos left d →
-        Walked (pos + length (encode_stmt d)) task.now.lengths.now task.now.thresholds.now task.now.rounds
-        (as_abstract state.old) alarms.old (as_abstract state.new) alarms.new d result }
+    ensures { AtStmt task.now pos left (λ d stop. Walks task.now stop d state.old alarms.old state.new alarms.new result) }
 {
     if left == 0 || pos >= task.text.len() {
         return pos;
@@ -179,18 +158,7 @@ pub fn analyse_at(
     state: &mut Abstract,
     alarms: &mut [u64],
 ) -> usize
-    ensures { (d : Stmt) → IsNonDecreasing task.now.thresholds.now → StmtReady task.now.text.now pos left d →
-        Walked (pos + length (encode_stmt d)) task.now.lengths.now task.now.thresholds.now task.now.rounds
-        (as_abstract state.old) alarms.old (as_abstract state.new) alarms.new d result }
+    ensures { AtStmt task.now pos left (λ d stop. Walks task.now stop d state.old alarms.old state.new alarms.new result) }
 {
     walk_at(task, pos, left, state, alarms)
-}
-
-// What is known at the head of the loop whose test stands at `pos`, once its rounds bring nothing new; and where its body ends.
-pub fn settle_at(task: &Task, pos: usize, left: usize, first: &Abstract) -> Round
-    ensures { (t : Test) (a : Stmt) → IsNonDecreasing task.now.thresholds.now → TestReady task.now.text.now pos left t → StmtReady task.now.text.now (pos + length (encode_test t)) left a →
-        Settled (pos + length (encode_test t) + length (encode_stmt a)) task.now.lengths.now task.now.thresholds.now task.now.rounds t a
-        (as_abstract first.now) (as_abstract result.state) result.end }
-{
-    iterate_at(task, pos, left, first)
 }

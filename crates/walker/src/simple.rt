@@ -18,30 +18,21 @@ use crate::types::Task;
 use bytes_at::{byte_at, word_at};
 use evaluate::{Ways, eval_here, length_at, test_at};
 use interval::{EvalResult, Faults, Interval};
+use program::Fault;
 use state::Abstract;
-
-// Numbers are below this.
-const LIMIT: u64 = 4294967296;
 
 // What is to be stored, if anything, in an array of `n` elements, and the faults of a store on the way.
 fn store_result(n: u64, index: EvalResult, value: EvalResult) -> EvalResult
     ensures { (i v : PlainResult) → Says index i → Says value v → Says result (store_result n i v) }
 {
-    match index {
-        EvalResult::Never(f) => EvalResult::Never(f),
-        EvalResult::Value(i, f) => match value {
-            EvalResult::Never(g) => EvalResult::Never(f.or(g)),
-            EvalResult::Value(v, g) => {
-                if i.hi < n {
-                    return EvalResult::Value(v, f.or(g));
-                }
-                if i.lo < n {
-                    return EvalResult::Value(v, f.or(g).or(Faults::index()));
-                }
-                EvalResult::Never(f.or(g).or(Faults::index()))
-            }
-        },
-    }
+    let Some(i) = index.interval else {
+        return index;
+    };
+    let both = value.after(index.faults);
+    let Some(v) = value.interval else {
+        return both;
+    };
+    Interval::element_of(n, v, i).after(both.faults)
 }
 
 // A variable gets what an expression comes to.
@@ -59,15 +50,10 @@ fn assign_at(
     let stmt = word_at(task.text, pos + 1);
     let x = byte_at(task.text, pos + 9) as usize;
     let found = eval_here(task.text, pos + 10, left, state, task.lengths);
-    match found.result {
-        EvalResult::Value(s, f) => {
-            mark_faults(alarms, stmt, f);
-            state.put(x, s);
-        }
-        EvalResult::Never(f) => {
-            mark_faults(alarms, stmt, f);
-            *state = Abstract::Unreached;
-        }
+    mark_faults(alarms, stmt, found.result.faults);
+    match found.result.interval {
+        Some(s) => state.put(x, s),
+        None => *state = Abstract::Unreached,
     }
     found.end
 }
@@ -82,15 +68,11 @@ fn store_at(task: &Task, pos: usize, left: usize, state: &mut Abstract, alarms: 
     let r = byte_at(task.text, pos + 9) as usize;
     let index = eval_here(task.text, pos + 10, left, state, task.lengths);
     let value = eval_here(task.text, index.end, left, state, task.lengths);
-    match store_result(length_at(task.lengths, r), index.result, value.result) {
-        EvalResult::Value(s, f) => {
-            mark_faults(alarms, stmt, f);
-            state.store(r, s);
-        }
-        EvalResult::Never(f) => {
-            mark_faults(alarms, stmt, f);
-            *state = Abstract::Unreached;
-        }
+    let stored = store_result(length_at(task.lengths, r), index.result, value.result);
+    mark_faults(alarms, stmt, stored.faults);
+    match stored.interval {
+        Some(s) => state.store(r, s),
+        None => *state = Abstract::Unreached,
     }
     value.end
 }
@@ -104,10 +86,9 @@ fn input_at(task: &Task, pos: usize, left: usize, state: &mut Abstract) -> usize
     let x = byte_at(task.text, pos + 9) as usize;
     let lo = word_at(task.text, pos + 10);
     let hi = word_at(task.text, pos + 18);
-    if hi < lo || LIMIT <= hi {
-        return pos + 26;
+    if let Some(range) = Interval::new(lo, hi) {
+        state.put(x, range);
     }
-    state.put(x, Interval { lo, hi });
     pos + 26
 }
 
@@ -117,7 +98,7 @@ fn check_faults(ways: &Ways) -> Faults
 {
     match ways.no {
         Abstract::Unreached => ways.faults,
-        Abstract::Reached(_) => ways.faults.or(Faults::check()),
+        Abstract::Reached(_) => ways.faults.or(Faults::of(Fault::Check)),
     }
 }
 
@@ -146,6 +127,7 @@ pub fn simple_at(
     ensures { (n : ℕ) (ms : List ℕ) (d : Stmt) → StmtReady task.now.text.now pos left d → HasNoParts (slice_index task.now.text.now pos) →
         Walked (pos + length (encode_stmt d)) task.now.lengths.now ms n (as_abstract state.old) alarms.old (as_abstract state.new) alarms.new d result }
 {
+    // By the numbers of the encoding: an enum of them would be matched once more.
     match task.text[pos] {
         1 => assign_at(task, pos, left, state, alarms),
         2 => store_at(task, pos, left, state, alarms),

@@ -6,6 +6,7 @@ ghost use Rattle.walker.specs.Table.{Marked, mark_if};
 
 use interval::Faults;
 
+// One slot, if the kind is there. By index: a proof knows nothing of a slice's elements after `get_mut`.
 fn mark(table: &mut [u64], slot: usize, there: bool)
     ensures { table.new ≡ mark_if there slot table.old }
 {

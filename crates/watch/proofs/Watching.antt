@@ -1,8 +1,11 @@
 -- A watched pass through a statement from passes through its parts. Rests on the analyser's clauses.
-use Rattle.std.proofs.Common.{◌≡◌, ℕ, true, false, List, [], ◌∷◌, sym, refl, ap, ◌∙◌, subst}
+use Rattle.std.proofs.Common.{◌≡◌, ℕ, zero, suc, ◌+◌, arith, true, false, List, [], ◌∷◌, sym, refl, ap, ◌∙◌, subst}
 use Rattle.std.specs.List.{AllByRecursion as All}
 use Rattle.program.specs.Validity.{stmt_numbers}
-use Rattle.walker.specs.Ready.{Low, StmtReady}
+use Rattle.program.specs.Basics.{eight}
+use Rattle.encoding.specs.Standing.{Stands}
+use Rattle.encoding.specs.Parts.{StmtAt}
+use Rattle.walker.specs.Ready.{Low, StmtReady, HasNoParts}
 use Rattle.program.specs.Syntax.{Expr, Test, Stmt, skip, assign, store, input, check, seq, branch, loop}
 use Rattle.analysis.specs.Reach.{Analysis}
 use Rattle.analysis.specs.AbstractState.{Env, Abstract, join}
@@ -82,3 +85,24 @@ module _ (ns ms : List ℕ) (n k : ℕ) where
 -- the number of a statement that has one number can be told from its eight bytes
 pub only_number : (text : List ℕ) (pos left : ℕ) (d e : Stmt) (p : ℕ) → StmtReady text pos left d → d ≡ e → stmt_numbers e ≡ p ∷ [] → Low p
 only_number text pos left d e p ready is one = (subst (λ (ps : List ℕ). All Low ps) one (subst (λ (x : Stmt). All Low (stmt_numbers x)) is ready.low)).0
+
+-- what a statement without parts is: its number stands behind its first byte, and watching it is noting that number
+pub record Noted (text : List ℕ) (ns ms : List ℕ) (n k pos : ℕ) (d : Stmt) : Type 0 where
+  pub p : ℕ
+  pub number : Stands text (pos + 1) (eight p)
+  pub low : Low p
+  pub simple : Simple ns ms n k p d
+
+module _ (text ns ms : List ℕ) (n k pos left : ℕ) (d : Stmt) (h : StmtReady text pos left d) where
+  pub noted_by : (tag : ℕ) → StmtAt tag text pos d → HasNoParts tag → Noted text ns ms n k pos d
+  unfolding stmt_numbers
+  noted_by zero s parts = absurd (omega (arith, parts.0))
+  noted_by (suc zero) s parts =
+      record { p = s.p; number = s.number; low = only_number text pos left d _ s.p h s.is refl; simple = simple_as ns ms n k s.p d _ s.is (simple_assign ns ms n k s.p s.v s.e) }
+  noted_by (suc (suc zero)) s parts =
+      record { p = s.p; number = s.number; low = only_number text pos left d _ s.p h s.is refl; simple = simple_as ns ms n k s.p d _ s.is (simple_store ns ms n k s.p s.r s.a s.e) }
+  noted_by (suc (suc (suc zero))) s parts =
+      record { p = s.p; number = s.number; low = only_number text pos left d _ s.p h s.is refl; simple = simple_as ns ms n k s.p d _ s.is (simple_input ns ms n k s.p s.v s.a s.b) }
+  noted_by (suc (suc (suc (suc zero)))) s parts =
+      record { p = s.p; number = s.number; low = only_number text pos left d _ s.p h s.is refl; simple = simple_as ns ms n k s.p d _ s.is (simple_check ns ms n k s.p s.t) }
+  noted_by (suc (suc (suc (suc (suc tag))))) s parts = absurd (omega (arith, parts.1))

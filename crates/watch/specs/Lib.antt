@@ -1,1 +1,2 @@
 pub mod Watch
+pub mod Pass

@@ -3,5 +3,7 @@
 #![tactic(auto)]
 
 mod pass;
+mod types;
 
 pub use pass::watch_at;
+pub use types::Watch;

@@ -12,4 +12,4 @@ returns-in-Unreached c stop ns h t s = never_fails ns t h _ (sym (ap as_abstract
 pub returns-in-Reached : goal.returns-in-Reached
 returns-in-Reached c stop ns h t s =
     subst (λ (f : Faults). Faulty f (check_faults_here ns t h)) (sym c.or.ensures)
-    (can_fail ns t h (as_env c.in-Reached.field-0) _ _ (sym (ap as_abstract c.in-Reached.is) ∙ s.no) s.faults c.check.ensures)
+    (can_fail ns t h (as_env c.in-Reached.field-0) _ _ (sym (ap as_abstract c.in-Reached.is) ∙ s.no) s.faults c.of.ensures)

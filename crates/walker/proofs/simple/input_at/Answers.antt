@@ -1,13 +1,17 @@
-use Rattle.std.proofs.Common.{refl, arith}
+use Rattle.std.proofs.Common.{refl, ap, ◌∙◌, arith}
+use Rattle.std.proofs.lemmas.Bool.Decides.{nat_tests}
+use Rattle.state.specs.Of.{as_abstract}
 use Rattle.walker.proofs.Statements.{input_range, input_walked}
 use Rattle.walker.proofs.simple.input_at.Goals as goal
-
-pub returns-then-hi-lo : goal.returns-then-hi-lo
-returns-then-hi-lo c ns n ms t d h s =
-    let q = input_range ns ms n _ _ _ d h s _ _ c.word_at-lo.ensures c.word_at-hi.ensures in
-    absurd (omega (arith, q.2, q.3, c.then-hi-lo.either))
+use Rattle.walker.proofs.simple.input_at.Goals.{in-Some, in_default}
 
 pub returns : goal.returns
 returns c ns n ms t d h s =
     let q = input_range ns ms n _ _ _ d h s _ _ c.word_at-lo.ensures c.word_at-hi.ensures in
-    input_walked ns ms n _ _ _ d h s _ _ t _ _ _ _ q.0 q.1 q.2 c.byte_at-x.ensures c.put.ensures refl
+    elim c.match-new.branch [
+      | in-Some w ↦
+          let m = rw w.in-Some.is at c.new.ensures in
+          input_walked ns ms n _ _ _ d h s _ _ t _ _ _ _ (m.0 ∙ q.0) (m.1 ∙ q.1) w.in-Some.range.ordered c.byte_at-x.ensures
+          (ap as_abstract w.state-is ∙ w.put.ensures) refl
+      | in_default w ↦ let m = rw w.in_default.is at c.new.ensures in absurd (grind (arith, nat_tests))
+    ]

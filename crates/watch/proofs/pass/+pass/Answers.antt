@@ -1,15 +1,14 @@
 -- Each arm is a watched pass through its parts, by what stands at the position.
 use Rattle.std.proofs.Common.{ℕ, sym, refl, ap, ◌∙◌, arith}
 use Rattle.program.specs.Syntax.{branch, loop}
-use Rattle.program.specs.Validity.{stmt_numbers}
 use Rattle.encoding.proofs.Lengths.{stmt_long}
-use Rattle.encoding.proofs.Parts.{skip_at, assign_at, store_at, input_at, check_at, seq_at, branch_at, loop_at, stmt_within, stmt_below}
+use Rattle.encoding.proofs.Parts.{skip_at, seq_at, branch_at, loop_at, stmt_within, stmt_below}
 use Rattle.evaluate.proofs.Tests.{join_swap}
 use Rattle.walker.proofs.Parts.{ready_at, seq_first, seq_second, branch_condition, branch_first, branch_second, loop_condition, loop_body, branch_number, loop_number}
 use Rattle.walker.proofs.Statements.{number_is}
-use Rattle.watch.proofs.Watching.{simple_assign, simple_store, simple_input, simple_check, simple_as, watched_skip, watched_seq, watched_branch, watched_loop, watched_at, watched_as, only_number}
-use Rattle.watch.proofs.pass.+branch_at_loop_at_pass_at.Goals as goal
-use Rattle.watch.proofs.pass.+branch_at_loop_at_pass_at.Goals.{pass_at-then-left-eq0-via-then-left-eq0, pass_at-then-left-eq0-via-else-left-eq0+then-pos-task}
+use Rattle.watch.proofs.Watching.{watched_skip, watched_seq, watched_branch, watched_loop, watched_at, watched_as}
+use Rattle.watch.proofs.pass.+pass.Goals as goal
+use Rattle.watch.proofs.pass.+pass.Goals.{pass_at-then-left-eq0-via-then-left-eq0, pass_at-then-left-eq0-via-else-left-eq0+then-pos-watch}
 
 pub branch_at-returns : goal.branch_at-returns
 branch_at-returns t c x a b rising test first second =
@@ -32,37 +31,13 @@ pass_at-returns-then-left-eq0 t c d rising h =
     let within = stmt_within _ _ d h.stands in
     absurd (elim c.then-left-eq0.branch [
       | pass_at-then-left-eq0-via-then-left-eq0 w ↦ omega (arith, h.enough, w.if-left-eq0.true)
-      | pass_at-then-left-eq0-via-else-left-eq0+then-pos-task w ↦ omega (arith, w.if-pos-task.true)
+      | pass_at-then-left-eq0-via-else-left-eq0+then-pos-watch w ↦ omega (arith, w.if-pos-watch.true)
     ])
 
 pub pass_at-returns-in-0 : goal.pass_at-returns-in-0
 pass_at-returns-in-0 t c d rising h =
     let s = skip_at _ _ d h.stands c.in-0.is in
     watched_as _ _ _ _ _ _ _ _ _ d _ _ s.is (watched_skip _ _ _ _ _ _ _ _ (omega (arith, s.long)))
-
-pub pass_at-returns-in-1 : goal.pass_at-returns-in-1
-unfolding stmt_numbers
-pass_at-returns-in-1 t c d rising h =
-    let s = assign_at _ _ d h.stands c.in-1.is in
-    c.simple_at.ensures d s.p rising h s.number (only_number _ _ _ d _ s.p h s.is refl) (simple_as _ _ _ _ _ d _ s.is (simple_assign _ _ _ _ s.p s.v s.e))
-
-pub pass_at-returns-in-2 : goal.pass_at-returns-in-2
-unfolding stmt_numbers
-pass_at-returns-in-2 t c d rising h =
-    let s = store_at _ _ d h.stands c.in-2.is in
-    c.simple_at-in-2.ensures d s.p rising h s.number (only_number _ _ _ d _ s.p h s.is refl) (simple_as _ _ _ _ _ d _ s.is (simple_store _ _ _ _ s.p s.r s.a s.e))
-
-pub pass_at-returns-in-3 : goal.pass_at-returns-in-3
-unfolding stmt_numbers
-pass_at-returns-in-3 t c d rising h =
-    let s = input_at _ _ d h.stands c.in-3.is in
-    c.simple_at-in-3.ensures d s.p rising h s.number (only_number _ _ _ d _ s.p h s.is refl) (simple_as _ _ _ _ _ d _ s.is (simple_input _ _ _ _ s.p s.v s.a s.b))
-
-pub pass_at-returns-in-4 : goal.pass_at-returns-in-4
-unfolding stmt_numbers
-pass_at-returns-in-4 t c d rising h =
-    let s = check_at _ _ d h.stands c.in-4.is in
-    c.simple_at-in-4.ensures d s.p rising h s.number (only_number _ _ _ d _ s.p h s.is refl) (simple_as _ _ _ _ _ d _ s.is (simple_check _ _ _ _ s.p s.t))
 
 pub pass_at-returns-in-5 : goal.pass_at-returns-in-5
 pass_at-returns-in-5 t c d rising h =
@@ -71,19 +46,25 @@ pass_at-returns-in-5 t c d rising h =
     let end = c.pass_at.ensures s.b rising (ready_at _ _ _ _ s.b (sym mid.end) (seq_second _ _ _ d h s)) in
     watched_as _ _ _ _ _ _ _ _ _ d _ _ s.is (watched_seq _ _ _ _ _ _ s.a s.b _ _ _ _ _ _ _ _ mid (watched_at _ _ _ _ _ _ _ _ _ _ _ s.b _ (omega (arith, mid.end, s.long)) refl end))
 
-pub pass_at-returns-in-6 : goal.pass_at-returns-in-6
-pass_at-returns-in-6 t c d rising h =
+pub numbered_at-returns-in-6 : goal.numbered_at-returns-in-6
+numbered_at-returns-in-6 t c has d rising h =
     let s = branch_at _ _ d h.stands c.in-6.is in
     let p-is = number_is _ _ s.p _ s.number (branch_number _ _ _ d h s) c.word_at.ensures in
     let w = c.branch_at.ensures s.t s.a s.b rising (branch_condition _ _ _ d h s) (branch_first _ _ _ d h s) (branch_second _ _ _ d h s) in
     watched_as _ _ _ _ _ _ _ _ _ d _ _ (s.is ∙ ap (λ (p : ℕ). branch p s.t s.a s.b) (sym p-is)) (watched_at _ _ _ _ _ _ _ _ _ _ _ _ _ (omega (arith, s.long)) refl w)
 
-pub pass_at-returns-in-7 : goal.pass_at-returns-in-7
-pass_at-returns-in-7 t c d rising h =
+pub numbered_at-returns-in-7 : goal.numbered_at-returns-in-7
+numbered_at-returns-in-7 t c has d rising h =
     let s = loop_at _ _ d h.stands c.in-7.is in
     let p-is = number_is _ _ s.p _ s.number (loop_number _ _ _ d h s) c.word_at-in-7.ensures in
     let w = c.loop_at.ensures s.t s.a rising (loop_condition _ _ _ d h s) (loop_body _ _ _ d h s) in
     watched_as _ _ _ _ _ _ _ _ _ d _ _ (s.is ∙ ap (λ (p : ℕ). loop p s.t s.a) (sym p-is)) (watched_at _ _ _ _ _ _ _ _ _ _ _ _ _ (omega (arith, s.long)) refl w)
 
+pub numbered_at-returns-in_default : goal.numbered_at-returns-in_default
+numbered_at-returns-in_default t c has d rising h = c.simple_at.ensures (omega (arith, stmt_below _ _ d h.stands)) d rising h
+
+pub pass_at-returns-in-6 : goal.pass_at-returns-in-6
+pass_at-returns-in-6 t c d rising h = c.numbered_at.ensures (omega (arith, c.in-6.is), λ e. omega (arith, e, c.in-6.is)) d rising h
+
 pub pass_at-returns-in_default : goal.pass_at-returns-in_default
-pass_at-returns-in_default t c d rising h = absurd (omega (arith, stmt_below _ _ d h.stands))
+pass_at-returns-in_default t c d rising h = c.numbered_at-in_default.ensures (omega arith, λ e. omega (arith, e)) d rising h
