@@ -22,25 +22,23 @@ pub enum Line<'a> {
 pub fn parse_line(line: &str) -> Line<'_>
     ensures { Asks line.now result }
 {
-    if line.is_empty() {
-        return Line::Blank;
+    match line {
+        "" => Line::Blank,
+        "help" => Line::Help,
+        "alarms" => Line::Alarms,
+        _ => {
+            if let Some(path) = line.strip_prefix("load ") {
+                Line::Load(path)
+            } else if let Some(name) = line.strip_prefix("at the end ") {
+                Line::AtEnd(name)
+            } else {
+                Line::Unknown
+            }
+        }
     }
-    if line == "help" {
-        return Line::Help;
-    }
-    if line == "alarms" {
-        return Line::Alarms;
-    }
-    if let Some(path) = line.strip_prefix("load ") {
-        return Line::Load(path);
-    }
-    if let Some(name) = line.strip_prefix("at the end ") {
-        return Line::AtEnd(name);
-    }
-    Line::Unknown
 }
 
-// A kind of fault in words.
+// A kind of fault in words. It stays the number that a row has, since numbers that name no kind have words too.
 fn fault_text(kind: u64) -> &'static str
     ensures { result.now ≡ fault_words kind }
 {
@@ -53,7 +51,7 @@ fn fault_text(kind: u64) -> &'static str
     }
 }
 
-// A refusal in words.
+// A refusal in words, of any number.
 fn refusal_text(number: u64) -> &'static str
     ensures { result.now ≡ refusal_words number }
 {

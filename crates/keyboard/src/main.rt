@@ -3,15 +3,17 @@
 #![tactic(auto)]
 
 use console::{Line, alarm_line, bounds_line, parse_line, refusal_line};
-use session::{Answer, Row, Session};
+use session::{Row, Session};
 use std::{fs, io};
 
-fn help(rt: &HostRuntime) -> io::Result<()> {
-    println!(rt; "load FILE      take the encoded program in FILE")?;
-    println!(rt; "alarms         list where the program can go wrong")?;
-    println!(rt; "at the end N   tell where variable N lies when a run ends")?;
-    println!(rt; "help           show these lines")
-}
+const HELP: &str = "\
+load FILE      take the encoded program in FILE
+alarms         list where the program can go wrong
+at the end N   tell where variable N lies when a run ends
+help           show these lines";
+
+// The number by which the machine refuses what is no command.
+const NO_COMMAND: u64 = 1;
 
 fn refuse(rt: &HostRuntime, number: u64) -> io::Result<()> {
     rt.println(refusal_line(rt.alloc(), number)?)
@@ -30,47 +32,44 @@ fn load(rt: &HostRuntime, session: &mut Session, path: &str) -> io::Result<()> {
     println!(rt; "loaded {path}")
 }
 
-fn show_row(rt: &HostRuntime, name: u8, row: Row) -> io::Result<()> {
+fn alarms(rt: &HostRuntime, session: &mut Session) -> io::Result<()> {
     let heap = rt.alloc();
-    match row {
-        Row::Alarm { stmt, kind } => rt.println(alarm_line(heap, stmt, u64::from(kind))?),
-        Row::Bounds { lo, hi } => rt.println(bounds_line(heap, name, lo, hi)?),
+    let answer = session.alarms(heap)?;
+    if answer.rows.is_empty() {
+        return println!(rt; "no alarms");
     }
-}
-
-fn show_rows(rt: &HostRuntime, name: u8, answer: &Answer) -> io::Result<()> {
     for row in answer.rows.iter() {
-        show_row(rt, name, *row)?;
+        if let Row::Alarm { stmt, kind } = *row {
+            rt.println(alarm_line(heap, stmt, u64::from(kind))?)?;
+        }
     }
     Ok(())
 }
 
-fn alarms(rt: &HostRuntime, session: &mut Session) -> io::Result<()> {
-    let answer = session.alarms(rt.alloc())?;
-    if answer.rows.is_empty() {
-        return println!(rt; "no alarms");
-    }
-    show_rows(rt, 0, &answer)
-}
-
 fn at_end(rt: &HostRuntime, session: &mut Session, name: &str) -> io::Result<()> {
+    let heap = rt.alloc();
     let Ok(x) = name.parse::<u8>() else {
-        return refuse(rt, 1);
+        return refuse(rt, NO_COMMAND);
     };
-    let answer = session.at_end(rt.alloc(), x)?;
+    let answer = session.at_end(heap, x)?;
     if answer.end != 0 {
         return refuse(rt, answer.end);
     }
     if answer.rows.is_empty() {
         return println!(rt; "{x}: no run comes to an end");
     }
-    show_rows(rt, x, &answer)
+    for row in answer.rows.iter() {
+        if let Row::Bounds { lo, hi } = *row {
+            rt.println(bounds_line(heap, x, lo, hi)?)?;
+        }
+    }
+    Ok(())
 }
 
 fn answer(rt: &HostRuntime, session: &mut Session, line: &str) -> io::Result<()> {
     match parse_line(line) {
         Line::Blank => Ok(()),
-        Line::Help => help(rt),
+        Line::Help => println!(rt; "{HELP}"),
         Line::Alarms => alarms(rt, session),
         Line::AtEnd(name) => at_end(rt, session, name),
         Line::Load(path) => load(rt, session, path),

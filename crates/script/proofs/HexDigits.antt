@@ -1,27 +1,26 @@
--- The digits of one byte more. Rests on the definitions alone.
-use Rattle.std.proofs.Common.{◌≡◌, ℕ, ◌+◌, ◌/◌, ◌%◌, ◌<◌, List, [], ◌∷◌, ◌++◌, length, get_or, take, refl, ap, ◌∙◌, append_assoc, arith}
-use Rattle.std.proofs.lemmas.List.{take_more}
-use Rattle.std.proofs.lemmas.Bool.Decides.{nat_tests}
+-- The library's digits are those of the definitions.
+use Rattle.std.proofs.Common.{◌≡◌, ℕ, zero, suc, ◌/◌, ◌%◌, ◌<◌, ◌==◌, ◌&&◌, Bool, true, List, [], ◌∷◌, get_or, inl, inr, refl, arith}
+use Rattle.std.proofs.lemmas.Bool.{and_parts, cases_lt, eqb-true}
+use Rattle.hex.specs.Hex.{encode_with, lower_digits}
 use Rattle.script.specs.Hex.{hex_digit, hex}
 
-hex_append : (xs ys : List ℕ) → hex (xs ++ ys) ≡ hex xs ++ hex ys
-hex_append [] ys = refl
-hex_append (x ∷ xs) ys = ap (λ (zs : List ℕ). hex_digit (x / 16) ∷ hex_digit (x % 16) ∷ zs) (hex_append xs ys)
+-- both have the same digit for each of the first n numbers
+abbrev same_below : ℕ → Bool
+same_below zero = true
+same_below (suc n) = (get_or lower_digits n 0 == hex_digit n) && same_below n
 
-hex_more : (bs : List ℕ) (i : ℕ) → i < length bs → hex (take (i + 1) bs) ≡ hex (take i bs) ++ (hex_digit (get_or bs i 0 / 16) ∷ hex_digit (get_or bs i 0 % 16) ∷ [])
-hex_more bs i h = ap hex (take_more bs i 0 h) ∙ hex_append (take i bs) (get_or bs i 0 ∷ [])
+digit_is : (n k : ℕ) → same_below n ≡ true → k < n → get_or lower_digits k 0 ≡ hex_digit k
+digit_is zero k h less = absurd (omega arith)
+digit_is (suc n) k h less =
+    let parts = and_parts (get_or lower_digits n 0 == hex_digit n) (same_below n) h in
+    elim (cases_lt k n) [ inl below ↦ digit_is n k parts.1 below | inr top ↦ let e : k ≡ n = omega arith in rw e (eqb-true _ _ parts.0) ]
 
--- a digit is ASCII
-digit_small : (n : ℕ) → n < 16 → hex_digit n < 128
-digit_small n h = grind (arith, nat_tests)
-
--- a byte's two digits pushed as characters
-pub two_more : (bs t t₁ t₂ ex ey : List ℕ) (i x y : ℕ) → i < length bs → get_or bs i 0 < 256 → t ≡ hex (take i bs) →
-    x ≡ hex_digit (get_or bs i 0 / 16) → y ≡ hex_digit (get_or bs i 0 % 16) → t₁ ≡ t ++ ex → (x < 128 → ex ≡ x ∷ []) → t₂ ≡ t₁ ++ ey → (y < 128 → ey ≡ y ∷ []) →
-    t₂ ≡ hex (take (i + 1) bs)
-two_more bs t t₁ t₂ ex ey i x y h b e p q f g k l =
-    let v = g (rw p (digit_small (get_or bs i 0 / 16) (omega arith))) in
-    let w = l (rw q (digit_small (get_or bs i 0 % 16) (omega arith))) in
-    let m = hex_more bs i h in
-    let n = append_assoc t (x ∷ []) (y ∷ []) in
+pub hex_is : (bytes : List ℕ) → ((i : ℕ) → get_or bytes i 0 < 256) → encode_with lower_digits bytes ≡ hex bytes
+unfolding encode_with
+hex_is [] h = refl
+hex_is (b ∷ rest) h =
+    let small : b < 256 = h zero in
+    let high = digit_is 16 (b / 16) refl (omega arith) in
+    let low = digit_is 16 (b % 16) refl (omega arith) in
+    let more = hex_is rest (λ i. h (suc i)) in
     cc

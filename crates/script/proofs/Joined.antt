@@ -1,11 +1,13 @@
 -- A file is taken apart in one way only. Rests on that numbers are read back from their eight bytes.
-use Rattle.std.proofs.Common.{◌≡◌, ℕ, ◌+◌, ◌-◌, ◌^◌, ◌<◌, List, [], ◌∷◌, ◌++◌, length, take, drop, sym, refl, ap, ◌∙◌, append_assoc, append-nil, arith, length-append, length-drop, take_all, take_at, drop_at}
+use Rattle.std.proofs.Common.{◌≡◌, ℕ, ◌+◌, ◌-◌, ◌^◌, ◌<◌, List, [], ◌∷◌, ◌++◌, length, take, drop, sym, refl, ap, ◌∙◌, subst, append_assoc, append-nil, arith, Bor, ◌≤◌, Option, Some, None, MatchOption, length-append, length-drop, take_all, take_at, drop_at}
 use Rattle.program.specs.Basics.{in_bytes, eight}
 use Rattle.encoding.specs.Reader.{ok, read_eight}
 use Rattle.encoding.specs.Standing.{Stands}
 use Rattle.encoding.proofs.ReadBack.{eight_back}
 use Rattle.encoding.proofs.Lengths.{length_eight}
-use Rattle.script.specs.Script.{joined}
+use Rattle.std.specs.List.{IsSplitAt}
+use Rattle.std.proofs.lemmas.List.{take-append-drop}
+use Rattle.script.specs.Script.{joined, Begins}
 
 -- the length of a file that begins with a command
 pub begins_long : (file c rest : List ℕ) → file ≡ eight (length c) ++ (c ++ rest) → length file ≡ 8 + (length c + length rest)
@@ -80,3 +82,25 @@ behind_eight file = take_all (length file - 8) (drop 8 file) (simp length-drop (
 pub first_stands : (file c rest : List ℕ) (n : ℕ) → Stands file 0 (eight n) → length c ≡ n → drop 8 file ≡ c ++ rest → file ≡ eight (length c) ++ (c ++ rest)
 unfolding in_bytes
 first_stands file c rest n s l e = rw (l, ← e) s
+
+-- what stands behind a first number is taken apart by it, or is too short for it
+pub begins_so : (file : List ℕ) (n : ℕ) (r : Option (Bor (List ℕ) × Bor (List ℕ))) → n < 2 ^ 64 → length file < 2 ^ 64 → 8 ≤ length file → Stands file 0 (eight n) →
+    MatchOption r (length (take (length file - 8) (drop 8 file)) < n) (λ p. IsSplitAt (take (length file - 8) (drop 8 file)) n p.0.now p.1.now) → Begins file r
+begins_so file n None h l some s short =
+    λ c rest e.
+    let k = begins_long file c rest e in
+    let size = first_size file c rest n h l s e in
+    let behind = ap length (behind_eight file) in
+    omega (arith, simp length-drop at behind)
+begins_so file n (Some p) h l some s split =
+    let all = take (length file - 8) (drop 8 file) in
+    first_stands file p.0.now p.1.now n s split.3
+    (sym (behind_eight file) ∙ sym (take-append-drop n all) ∙ ap (λ (x : List ℕ). x ++ drop n all) (sym split.1) ∙ ap (λ (x : List ℕ). p.0.now ++ x) (sym split.2))
+
+-- the first command that was found
+pub taken : (rest : List ℕ) (o : Option (Bor (List ℕ) × Bor (List ℕ))) (x : Bor (List ℕ) × Bor (List ℕ)) → Begins rest o → o ≡ Some x → rest ≡ eight (length x.0.now) ++ (x.0.now ++ x.1.now)
+taken rest o x b is = subst (λ (p : Option (Bor (List ℕ) × Bor (List ℕ))). Begins rest p) is b
+
+-- none was found
+pub none_taken : (rest : List ℕ) (o : Option (Bor (List ℕ) × Bor (List ℕ))) → Begins rest o → o ≡ None → (c behind : List ℕ) → rest ≡ eight (length c) ++ (c ++ behind) → ⊥
+none_taken rest o b is = subst (λ (p : Option (Bor (List ℕ) × Bor (List ℕ))). Begins rest p) is b

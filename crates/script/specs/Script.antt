@@ -1,5 +1,5 @@
 -- Session files: commands, each behind its length. Assumes nothing: these are definitions.
-use Rattle.std.specs.Prelude.{◌≡◌, ℕ, List, [], ◌∷◌, ◌++◌, length, Some, None, Ok, Err, vec_items, Option, Result, Vec, ◌≢◌}
+use Rattle.std.specs.Prelude.{◌≡◌, ℕ, List, [], ◌∷◌, ◌++◌, length, codes, Some, None, Ok, Err, vec_items, Option, Result, Vec, ◌≢◌}
 use Rattle.std.specs.Borrow.{Bor}
 use Rattle.std.specs.declared.alloc.Global.{Global}
 use Rattle.program.specs.Basics.{map, eight}
@@ -25,3 +25,8 @@ abbrev pub Splits : List ℕ → Result (Vec (Bor (List ℕ)) Global) ScriptErro
 Splits file (Ok v) = joined (contents (vec_items v)) ≡ file
 Splits file (Err Damaged) = (cs : List (List ℕ)) → joined cs ≢ file
 Splits file (Err NoMemory) = Unit {0}
+
+-- an error in words
+abbrev pub error_words : ScriptError → List ℕ
+error_words Damaged = codes "damaged: it ends within a command"
+error_words NoMemory = codes "out of memory"

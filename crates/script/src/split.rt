@@ -1,8 +1,12 @@
 // The commands of a session file.
-ghost use Rattle.script.specs.Script.{Begins, Splits};
+ghost use Rattle.std.specs.Prelude.{◌≡◌, Some};
+ghost use Rattle.script.specs.Script.{Begins, Splits, error_words};
+ghost use Rattle.script.specs.declared.split.ScriptError.TheVariants.{NoMemory};
 
 use scanner::read_number;
-use std::alloc::Global;
+use std::alloc::{AllocFailed, Global};
+use std::error::Error;
+use std::fmt;
 
 #[derive(Clone, Copy, PartialEq, Eq, Debug)]
 pub enum ScriptError {
@@ -11,16 +15,34 @@ pub enum ScriptError {
     NoMemory,
 }
 
+impl fmt::Display for ScriptError {
+    ghost output = { λ e. Some (error_words e) };
+
+    fn fmt<W: fmt::Write>(&self, f: &mut fmt::Formatter<W>) -> fmt::Result {
+        f.write_str(match self {
+            ScriptError::Damaged => "damaged: it ends within a command",
+            ScriptError::NoMemory => "out of memory",
+        })
+    }
+}
+
+impl Error for ScriptError {}
+
+// By hand, since a derived one doesn't tell callers which error a `?` gives.
+impl<T: Drop> From<AllocFailed<T>> for ScriptError {
+    ghost from_gives = { λ _ e. e ≡ NoMemory };
+
+    fn from(_e: AllocFailed<T>) -> ScriptError {
+        ScriptError::NoMemory
+    }
+}
+
 // The first command and what stands behind it.
 fn first_command(file: &[u8]) -> Option<(&[u8], &[u8])>
     ensures { Begins file.now result }
 {
     let size = read_number(file, 0)?;
-    let rest = &file[8..];
-    if size > rest.len() as u64 {
-        return None;
-    }
-    Some(rest.split_at(size as usize))
+    file[8..].split_at_checked(size as usize)
 }
 
 // All commands, in order.
@@ -30,12 +52,8 @@ pub fn split_commands(heap: Global, file: &[u8]) -> Result<Vec<&[u8]>, ScriptErr
     let mut commands = Vec::new(heap);
     let mut rest = file;
     while !rest.is_empty() {
-        let Some((command, behind)) = first_command(rest) else {
-            return Err(ScriptError::Damaged);
-        };
-        if commands.push(command).is_err() {
-            return Err(ScriptError::NoMemory);
-        }
+        let (command, behind) = first_command(rest).ok_or(ScriptError::Damaged)?;
+        commands.push(command)?;
         rest = behind;
     }
     Ok(commands)
