@@ -1,21 +1,16 @@
 -- Words and their numbers: one word, one token more. Rests on the definitions alone.
-use Rattle.std.proofs.Common.{◌≡◌, ℕ, zero, suc, ◌<◌, ◌≤◌, Bool, true, false, cond, List, [], ◌∷◌, ◌++◌, map, length, get_or, Some, sym, refl, ap, ◌∙◌, subst, inl, inr, arith, length-append, Bor}
+use Rattle.std.proofs.Common.{◌≡◌, ℕ, zero, suc, ◌<◌, ◌≤◌, List, [], ◌∷◌, ◌++◌, map, length, get_or, Ok, sym, refl, ap, ◌∙◌, subst, inl, inr, arith, length-append}
 use Rattle.std.specs.List.{AllByRecursion}
 use Rattle.std.proofs.slice.Lists.{all_by_recursion_push}
 use Rattle.std.proofs.lemmas.List.{map_push}
 use Rattle.lexer.specs.declared.types.Token.{Token}
 use Rattle.lexer.specs.declared.types.Token.TheVariants.{Word, Number, Key}
 use Rattle.lexer.specs.Lexing.{Piece, word}
-use Rattle.lexer.specs.Tokens.{texts, spell, Lacks, Different, Numbered, Bounded, Takes}
+use Rattle.lexer.specs.Tokens.{spell, Lacks, Different, Numbered, Bounded, Takes}
 
 pub lacks_places : (ws : List (List ℕ)) (w : List ℕ) → ((k : ℕ) → k < length ws → get_or ws k [] ≡ w → ⊥) → Lacks ws w
 lacks_places [] w h = tt
 lacks_places (v ∷ vs) w h = (h 0 (omega arith), lacks_places vs w (λ k l. h (suc k) (omega arith)))
-
--- one word pushed
-pub texts_pushed : (b : Bool) (rs rs₁ : List (Bor (List ℕ))) (r : Bor (List ℕ)) → b ≡ true → rs₁ ≡ cond b (rs ++ r ∷ []) rs → texts rs₁ ≡ texts rs ++ r.now ∷ []
-texts_pushed true rs rs₁ r t e = ap texts e ∙ map_push (λ (q : Bor (List ℕ)). q.now) rs r
-texts_pushed false rs rs₁ r t e = let z : ◌≡◌ {A = ℕ} 0 1 = cc in absurd (omega arith)
 
 get_d_front : (ws : List (List ℕ)) (w : List ℕ) (i : ℕ) → i < length ws → get_or (ws ++ w ∷ []) i [] ≡ get_or ws i []
 get_d_front [] w i h = absurd (omega arith)
@@ -97,7 +92,7 @@ taken_new ws w ts b n d l =
     }
 
 pub taken : (ws us : List (List ℕ)) (ts : List Token) (p : Piece) (t : Token) → AllByRecursion (Bounded (length ws)) ts → Numbered 0 ts (length ws) → Different ws →
-    Takes ws us p (Some t) → Taken ws us ts p t
+    Takes ws us p (Ok t) → Taken ws us ts p t
 taken ws us ts p t b n d (inl (e, f, h)) = subst (λ (vs : List (List ℕ)). Taken ws vs ts p t) (sym e) (taken_known ws ts p t b n d f h)
 taken ws us ts p t b n d (inr (w, e, f, g, l)) =
     rw (e, f, g) (taken_new ws w ts b n d l)

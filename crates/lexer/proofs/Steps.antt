@@ -1,10 +1,13 @@
 -- A text token by token: what is read so far, and the rest. Rests on the definitions, and on words' numbers.
-use Rattle.std.proofs.Common.{◌≡◌, ℕ, zero, suc, ◌+◌, ◌-◌, ◌<◌, ◌≤◌, List, [], ◌∷◌, ◌++◌, map, length, drop, Some, sym, refl, ap, ◌∙◌, subst, append_assoc, append-nil, arith, length-append, Bor}
+use Rattle.std.proofs.Common.{◌≡◌, ℕ, zero, suc, ◌+◌, ◌-◌, ◌<◌, ◌≤◌, List, [], ◌∷◌, ◌++◌, map, length, drop, Ok, Err, sym, refl, ap, ◌∙◌, subst, append_assoc, append-nil, arith, length-append, Bor}
 use Rattle.std.specs.List.{AllByRecursion}
 use Rattle.std.proofs.lemmas.List.{drop_all}
 use Rattle.lexer.specs.declared.types.Token.{Token}
 use Rattle.lexer.specs.Lexing.{Piece, strange, large, token, first, Lexing, complete, character, too_large, then_token, past_blanks, lex_from, lexing}
-use Rattle.lexer.specs.Tokens.{texts, spell, Different, Numbered, Bounded, Ascending, Tokens, Takes}
+use Rattle.lexer.specs.declared.error.LexError.{LexError}
+use Rattle.lexer.specs.declared.error.LexError.TheVariants.{NoMemory, Character, TooLarge}
+use Rattle.lexer.specs.Pieces.{as_first, Ends}
+use Rattle.lexer.specs.Tokens.{texts, spell, Different, Numbered, Bounded, Ascending, Tokens, Takes, Lexes}
 use Rattle.lexer.proofs.Numbering.{taken}
 
 -- tokens before others
@@ -78,7 +81,7 @@ begun bs at e l =
     }
 
 pub one_more : (bs : List ℕ) (at end next : ℕ) (starts : List ℕ) (ts : List Token) (ws us : List (List ℕ)) (p : Piece) (t : Token) → SoFar bs at starts ts ws → at < length bs → at < end →
-    token p (end - at) ≡ first (drop at bs) → Takes ws us p (Some t) → next ≡ past_blanks bs end → next ≤ length bs → SoFar bs next (starts ++ at ∷ []) (ts ++ t ∷ []) us
+    token p (end - at) ≡ first (drop at bs) → Takes ws us p (Ok t) → next ≡ past_blanks bs end → next ≤ length bs → SoFar bs next (starts ++ at ∷ []) (ts ++ t ∷ []) us
 one_more bs at end next starts ts ws us p t s l h f k e w =
     let q = taken ws us ts p t s.bounded s.numbered s.different k in
     let n : length (starts ++ at ∷ []) ≡ length starts + 1 = simp length-append refl in
@@ -95,15 +98,22 @@ one_more bs at end next starts ts ws us p t s l h f k e w =
       different = q.different;
     }
 
-pub wrong_character : (bs : List ℕ) (at : ℕ) (starts : List ℕ) (ts : List Token) (ws : List (List ℕ)) → SoFar bs at starts ts ws → at < length bs → strange ≡ first (drop at bs) → lexing bs ≡ character at
+wrong_character : (bs : List ℕ) (at : ℕ) (starts : List ℕ) (ts : List Token) (ws : List (List ℕ)) → SoFar bs at starts ts ws → at < length bs → strange ≡ first (drop at bs) → lexing bs ≡ character at
 wrong_character bs at starts ts ws s l f =
     let g : length bs - length starts ≡ suc (length bs - length starts - 1) = omega (arith, s.few) in
     s.whole ∙ ap (prefixed starts (map (spell ws) ts)) (lex_strange _ _ bs at g f)
 
-pub wrong_number : (bs : List ℕ) (at : ℕ) (starts : List ℕ) (ts : List Token) (ws : List (List ℕ)) → SoFar bs at starts ts ws → at < length bs → large ≡ first (drop at bs) → lexing bs ≡ too_large at
+wrong_number : (bs : List ℕ) (at : ℕ) (starts : List ℕ) (ts : List Token) (ws : List (List ℕ)) → SoFar bs at starts ts ws → at < length bs → large ≡ first (drop at bs) → lexing bs ≡ too_large at
 wrong_number bs at starts ts ws s l f =
     let g : length bs - length starts ≡ suc (length bs - length starts - 1) = omega (arith, s.few) in
     s.whole ∙ ap (prefixed starts (map (spell ws) ts)) (lex_large _ _ bs at g f)
+
+-- no piece stands there
+pub wrong_there : (bs : List ℕ) (at : ℕ) (starts : List ℕ) (ts : List Token) (ws : List (List ℕ)) (e : LexError) → SoFar bs at starts ts ws → at < length bs →
+    as_first at (Err e) ≡ first (drop at bs) → Ends at (length bs) (Err e) → Lexes bs (Err e)
+wrong_there bs at starts ts ws NoMemory s l f h = tt
+wrong_there bs at starts ts ws (Character i) s l f h = rw h (wrong_character bs at starts ts ws s l f)
+wrong_there bs at starts ts ws (TooLarge i) s l f h = rw h (wrong_number bs at starts ts ws s l f)
 
 pub all_read : (bs : List ℕ) (at : ℕ) (starts : List ℕ) (ts : List Token) (ws : List (List ℕ)) → SoFar bs at starts ts ws → length bs ≤ at → Tokens bs starts ts ws
 all_read bs at starts ts ws s h =
@@ -122,6 +132,6 @@ pub begun_empty : (bs bytes : List ℕ) (at : ℕ) (starts : List ℕ) (ts : Lis
 begun_empty bs bytes at starts ts rs b e l p q r = rw (p, q, r, ← b) (begun bytes at e l)
 
 pub one_pushed : (bs bytes : List ℕ) (at end next : ℕ) (starts starts₁ : List ℕ) (ts ts₁ : List Token) (ws us : List (List ℕ)) (p : Piece) (t : Token) → bytes ≡ bs → SoFar bs at starts ts ws → at < length bs →
-    at < end → token p (end - at) ≡ first (drop at bs) → Takes ws us p (Some t) → next ≡ past_blanks bytes end → next ≤ length bytes → starts₁ ≡ starts ++ at ∷ [] → ts₁ ≡ ts ++ t ∷ [] → SoFar bs next starts₁ ts₁ us
+    at < end → token p (end - at) ≡ first (drop at bs) → Takes ws us p (Ok t) → next ≡ past_blanks bytes end → next ≤ length bytes → starts₁ ≡ starts ++ at ∷ [] → ts₁ ≡ ts ++ t ∷ [] → SoFar bs next starts₁ ts₁ us
 one_pushed bs bytes at end next starts starts₁ ts ts₁ ws us p t b s l h f k e w m n =
     rw (m, n) (one_more bs at end next starts ts ws us p t s l h f k (subst (λ (xs : List ℕ). next ≡ past_blanks xs end) b e) (subst (λ (xs : List ℕ). next ≤ length xs) b w))

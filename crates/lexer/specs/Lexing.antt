@@ -1,4 +1,5 @@
 -- A text as tokens, by its bytes. Assumes nothing: these are definitions.
+use Rattle.std.specs.List.{prefix_len}
 use Rattle.std.specs.Prelude.{ℕ, zero, suc, ◌+◌, ◌-◌, ◌*◌, ◌^◌, Bool, true, false, cond, not, ◌&&◌, ◌||◌, List, [], ◌∷◌, length, take, drop, Some, None, Option, ◌==◌, nat_le, nat_lt}
 use Rattle.lexer.specs.declared.types.Key.{Key}
 use Rattle.lexer.specs.Keys.{keyword, symbol}
@@ -20,8 +21,7 @@ word_byte b = letter b || digit b
 
 -- how many at the front pass a test
 abbrev pub run : (ℕ → Bool) → List ℕ → ℕ
-run p [] = 0
-run p (b ∷ bs) = cond (p b) (suc (run p bs)) 0
+run p bs = prefix_len p bs
 
 -- how many at the front are white space or in a comment; whether a comment has begun
 abbrev pub blanks : Bool → List ℕ → ℕ

@@ -2,3 +2,4 @@ pub mod Keys
 pub mod Lexing
 pub mod Pieces
 pub mod Tokens
+pub mod Tests

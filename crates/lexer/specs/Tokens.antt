@@ -2,12 +2,13 @@
 use Rattle.std.specs.Prelude.{◌≡◌, ℕ, suc, ◌^◌, ◌<◌, ◌≤◌, ◌⊎◌, List, [], ◌∷◌, ◌++◌, map, length, Ok, Err, vec_items, Option, Result, ◌≢◌, slice_index_or}
 use Rattle.std.specs.Borrow.{Bor}
 use Rattle.std.specs.declared.option.Option.TheVariants as option
+use Rattle.std.specs.declared.alloc.AllocError.{AllocError}
 use Rattle.std.specs.List.{AllByRecursion}
 use Rattle.lexer.specs.declared.types.Token.{Token}
 use Rattle.lexer.specs.declared.types.Token.TheVariants.{Word, Number, Key}
 use Rattle.lexer.specs.declared.whole.Lexed.{Lexed}
-use Rattle.lexer.specs.declared.whole.LexError.{LexError}
-use Rattle.lexer.specs.declared.whole.LexError.TheVariants.{NoMemory, Character, TooLarge}
+use Rattle.lexer.specs.declared.error.LexError.{LexError}
+use Rattle.lexer.specs.declared.error.LexError.TheVariants.{NoMemory, Character, TooLarge}
 use Rattle.lexer.specs.Lexing.{Piece, word, number, key, complete, character, too_large, lexing}
 
 -- what is behind references
@@ -69,13 +70,13 @@ abbrev pub Finds : List (List ℕ) → List ℕ → Option ℕ → Type 0
 Finds ws w option.None = Lacks ws w
 Finds ws w (option.Some i) = (i < length ws) × (slice_index_or ws i [] ≡ w)
 
--- a word's number among the words before; or it is new, and the last of the words after
-abbrev pub Numbers : (before after : List (List ℕ)) → List ℕ → Option ℕ → Type 0
-Numbers ws us w option.None = Unit {0}
-Numbers ws us w (option.Some i) = ((us ≡ ws) × (i < length ws) × (slice_index_or ws i [] ≡ w)) ⊎ ((us ≡ ws ++ w ∷ []) × (i ≡ length ws) × Lacks ws w)
+-- a word's number among the words before; or it is new, and the last of the words after; without memory the words stay
+abbrev pub Numbers : (before after : List (List ℕ)) → List ℕ → Result ℕ AllocError → Type 0
+Numbers ws us w (Err e) = us ≡ ws
+Numbers ws us w (Ok i) = ((us ≡ ws) × (i < length ws) × (slice_index_or ws i [] ≡ w)) ⊎ ((us ≡ ws ++ w ∷ []) × (i ≡ length ws) × Lacks ws w)
 
--- a piece as a token: it says what the piece says, and its word was known or is new
-abbrev pub Takes : (before after : List (List ℕ)) → Piece → Option Token → Type 0
-Takes ws us p option.None = Unit {0}
-Takes ws us p (option.Some t) =
+-- a piece as a token: it says what the piece says, and its word was known or is new; without memory the words stay
+abbrev pub Takes : (before after : List (List ℕ)) → Piece → Result Token AllocError → Type 0
+Takes ws us p (Err e) = us ≡ ws
+Takes ws us p (Ok t) =
     ((us ≡ ws) × (spell ws t ≡ p) × Bounded (length ws) t) ⊎ ((w : List ℕ) × (us ≡ ws ++ w ∷ []) × (t ≡ Word (length ws)) × (p ≡ word w) × Lacks ws w)

@@ -1,10 +1,11 @@
-// Keywords and symbols by their text.
+// Keywords and symbols by their text. Both give an option and no conversion's error: most words are no keywords, which is nothing wrong.
 ghost use Rattle.std.specs.Prelude.{◌≡◌};
 ghost use Rattle.lexer.specs.Keys.{keyword, symbol};
 
 use crate::types::Key;
 
 // The keyword that a word is.
+#[tactic(auto, unfolding(crate::specs::Keys::keyword))]
 pub fn key_of(word: &str) -> Option<Key>
     ensures { result ≡ keyword word.now }
 {
@@ -30,6 +31,7 @@ pub fn key_of(word: &str) -> Option<Key>
 }
 
 // The symbol that a byte is.
+#[tactic(auto, unfolding(crate::specs::Keys::symbol))]
 pub fn symbol_of(byte: u8) -> Option<Key>
     ensures { result ≡ symbol byte }
 {

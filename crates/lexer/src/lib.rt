@@ -2,6 +2,7 @@
 
 #![tactic(auto)]
 
+mod error;
 mod keys;
 mod pieces;
 mod scan;
@@ -9,6 +10,7 @@ mod types;
 mod whole;
 mod words;
 
+pub use error::LexError;
 pub use keys::key_of;
 pub use types::{Key, Token};
-pub use whole::{LexError, Lexed, lex};
+pub use whole::{Lexed, lex};

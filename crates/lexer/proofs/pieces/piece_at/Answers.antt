@@ -1,8 +1,7 @@
-use Rattle.std.proofs.Common.{◌≡◌, ℕ, ◌+◌, ◌-◌, List, get_or, drop, sym, ap, ◌∙◌, subst, arith}
+use Rattle.std.proofs.Common.{◌≡◌, ℕ, ◌+◌, ◌-◌, List, get_or, sym, ap, ◌∙◌, arith}
 use Rattle.lexer.specs.declared.types.Key.{Key}
 use Rattle.lexer.specs.Keys.{symbol}
-use Rattle.lexer.specs.Lexing.{First, letter, digit, run, key, token, symbol_or_strange, first_number}
-use Rattle.lexer.specs.Pieces.{as_first, Ends}
+use Rattle.lexer.specs.Lexing.{First, letter, digit, key, token, symbol_or_strange}
 use Rattle.lexer.proofs.Runs.{first_letter, first_digit, first_other}
 use Rattle.lexer.proofs.pieces.piece_at.Goals as goal
 
@@ -13,34 +12,22 @@ in_text f bs text i a e h = sym (h ∙ ap (λ (xs : List ℕ). f (get_or xs i 0)
 one_byte : (i : ℕ) (k : Key) (f : First) → f ≡ token (key k) 1 → token (key k) (i + 1 - i) ≡ f
 one_byte i k f e = let h : i + 1 - i ≡ 1 = omega arith in rw h (sym e)
 
-pub returns-then-is_letter : goal.returns-then-is_letter
-returns-then-is_letter c =
-    record {
-      is = c.word_at.ensures.is ∙ sym (first_letter c.args.text.now c.args.at c.requires (in_text letter _ _ _ _ c.as_bytes-bytes.ensures.value c.if-is_letter.ensures));
-      ends = c.word_at.ensures.ends;
-    }
+pub returns-then-is_letter-clause-is : goal.returns-then-is_letter-clause-is
+returns-then-is_letter-clause-is c =
+    c.word_at.ensures.is ∙ sym (first_letter c.args.text.now c.args.at c.requires (in_text letter _ _ _ _ c.as_bytes.ensures.value c.if-is_letter.ensures))
 
-pub returns-then-is_digit : goal.returns-then-is_digit
-returns-then-is_digit c =
-    record {
-      is = subst (λ (bs : List ℕ). as_first c.args.at c.number_at.result ≡ first_number (run digit (drop c.args.at bs)) (drop c.args.at bs)) c.as_bytes-bytes.ensures.value c.number_at.ensures.is
-          ∙ sym (first_digit c.args.text.now c.args.at c.requires (in_text letter _ _ _ _ c.as_bytes-bytes.ensures.value c.if-is_letter.ensures) (in_text digit _ _ _ _ c.as_bytes-bytes.ensures.value c.if-is_digit.ensures));
-      ends = subst (λ (n : ℕ). Ends c.args.at n c.number_at.result) c.as_bytes-bytes.ensures.len c.number_at.ensures.ends;
-    }
+pub returns-then-is_digit-clause-is : goal.returns-then-is_digit-clause-is
+returns-then-is_digit-clause-is c =
+    c.number_at.ensures.is
+    ∙ sym (first_digit c.args.text.now c.args.at c.requires (in_text letter _ _ _ _ c.as_bytes.ensures.value c.if-is_letter.ensures) (in_text digit _ _ _ _ c.as_bytes.ensures.value c.if-is_digit.ensures))
 
-pub returns-in-Some : goal.returns-in-Some
-returns-in-Some c =
-    record {
-      is = one_byte c.args.at c.in-Some.key _
-          (first_other c.args.text.now c.args.at c.requires (in_text letter _ _ _ _ c.as_bytes-bytes.ensures.value c.if-is_letter.ensures) (in_text digit _ _ _ _ c.as_bytes-bytes.ensures.value c.if-is_digit.ensures)
-          ∙ ap symbol_or_strange (in_text symbol _ _ _ _ c.as_bytes-bytes.ensures.value c.in-Some.ensures));
-      ends = (omega arith, omega (arith, c.requires), tt);
-    }
+pub returns-in-Some-clause-is : goal.returns-in-Some-clause-is
+returns-in-Some-clause-is c =
+    one_byte c.args.at c.in-Some.key _
+    (first_other c.args.text.now c.args.at c.requires (in_text letter _ _ _ _ c.as_bytes.ensures.value c.if-is_letter.ensures) (in_text digit _ _ _ _ c.as_bytes.ensures.value c.if-is_digit.ensures)
+    ∙ ap symbol_or_strange (in_text symbol _ _ _ _ c.as_bytes.ensures.value c.in-Some.ensures))
 
-pub returns-in-None : goal.returns-in-None
-returns-in-None c =
-    record {
-      is = sym (first_other c.args.text.now c.args.at c.requires (in_text letter _ _ _ _ c.as_bytes-bytes.ensures.value c.if-is_letter.ensures) (in_text digit _ _ _ _ c.as_bytes-bytes.ensures.value c.if-is_digit.ensures)
-          ∙ ap symbol_or_strange (in_text symbol _ _ _ _ c.as_bytes-bytes.ensures.value c.in-None.ensures));
-      ends = tt;
-    }
+pub returns-in-None-clause-is : goal.returns-in-None-clause-is
+returns-in-None-clause-is c =
+    sym (first_other c.args.text.now c.args.at c.requires (in_text letter _ _ _ _ c.as_bytes.ensures.value c.if-is_letter.ensures) (in_text digit _ _ _ _ c.as_bytes.ensures.value c.if-is_digit.ensures)
+    ∙ ap symbol_or_strange (in_text symbol _ _ _ _ c.as_bytes.ensures.value c.in-None.ensures))

@@ -1,10 +1,14 @@
--- The white space from here ends where all of it ends.
-use Rattle.std.proofs.Common.{◌≡◌, ◌+◌, ◌-◌, ◌≤◌, false, length, drop}
-use Rattle.lexer.specs.Lexing.{blanks}
+-- The white space from here ends where all of it ends, and none begins here.
+use Rattle.std.proofs.Common.{◌≡◌, ◌-◌, ◌<◌, ◌≤◌, false, length, get_or}
+use Rattle.lexer.specs.Lexing.{white, past_blanks}
 use Rattle.lexer.proofs.scan.blanks_end.Given as goal
 
 abbrev pub invariant-loop-at : goal.invariant-loop-at
-invariant-loop-at l = (l.at ≤ length l.bytes) × (l.at + blanks l.comment (drop l.at l.bytes) ≡ l.from + blanks false (drop l.from l.bytes))
+invariant-loop-at l = record {
+  within : l.at ≤ length l.bytes;
+  same : past_blanks l.bytes l.at ≡ past_blanks l.bytes l.from;
+  stops : l.at < length l.bytes → white (get_or l.bytes l.at 0) ≡ false;
+}
 
 abbrev pub decreases-loop-at : goal.decreases-loop-at
 decreases-loop-at l = length l.bytes - l.at

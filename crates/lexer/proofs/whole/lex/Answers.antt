@@ -1,6 +1,6 @@
-use Rattle.std.proofs.ResultArms.{chosen}
+use Rattle.std.proofs.lemmas.Result.{err_from_is_err_and}
 use Rattle.lexer.specs.Pieces.{as_piece}
-use Rattle.lexer.proofs.Steps.{begun_empty, one_pushed, wrong_character, wrong_number, all_read}
+use Rattle.lexer.proofs.Steps.{begun_empty, one_pushed, wrong_there, all_read}
 use Rattle.lexer.proofs.whole.lex.Goals as goal
 
 pub loop-at-init : goal.loop-at-init
@@ -10,16 +10,15 @@ loop-at-init c =
 
 pub loop-at-preserved : goal.loop-at-preserved
 loop-at-preserved c =
-    one_pushed c.args.text.now c.as_bytes-in-loop-at.result.now c.loop-at.at c.in-Piece.end c.blanks_end-at-in-loop-at.result _ _ _ _ _ _ (as_piece c.in-Piece.piece) c.in-Some.token
-    c.as_bytes-in-loop-at.ensures.value c.loop-at.invariant c.loop-at-test.true c.in-Piece.ensures.ends.0 c.in-Piece.ensures.is c.in-Some.ensures
+    one_pushed c.args.text.now c.as_bytes-in-loop-at.result.now c.loop-at.at c.in_ok-piece.end c.blanks_end-at-in-loop-at.result _ _ _ _ _ _ (as_piece c.in_ok-piece.piece) c.in_ok-token_of.field-0
+    c.as_bytes-in-loop-at.ensures.value c.loop-at.invariant c.loop-at-test.true c.in_ok-piece.ensures.ends.0 c.in_ok-piece.ensures.is c.in_ok-token_of.ensures
     c.blanks_end-at-in-loop-at.ensures.is c.blanks_end-at-in-loop-at.ensures.within
-    (chosen _ _ _ _ c.push-else-is_err.ensures.items c.if-is_err-2.ensures.negation) (chosen _ _ _ _ c.push.ensures.items c.if-is_err.ensures.negation)
+    c.in_ok-push-2.ensures.items c.in_ok-push.ensures.items
 
-pub returns-in-Strange : goal.returns-in-Strange
-returns-in-Strange c = wrong_character c.args.text.now c.loop-at.at _ _ _ c.loop-at.invariant c.loop-at-test.true c.in-Strange.ensures.is
-
-pub returns-in-Large : goal.returns-in-Large
-returns-in-Large c = wrong_number c.args.text.now c.loop-at.at _ _ _ c.loop-at.invariant c.loop-at-test.true c.in-Large.ensures.is
+pub returns-in_err-piece : goal.returns-in_err-piece
+returns-in_err-piece c =
+    let p = err_from_is_err_and c.from_residual.result c.from_residual.ensures.1 in
+    rw (p.1, p.2) (wrong_there c.args.text.now c.loop-at.at _ _ _ c.in_err-piece.field-0.0 c.loop-at.invariant c.loop-at-test.true c.in_err-piece.ensures.is c.in_err-piece.ensures.ends)
 
 pub returns : goal.returns
 returns c = all_read c.args.text.now c.loop-at.at _ _ _ c.loop-at.invariant c.loop-at-test.false
