@@ -1,6 +1,7 @@
 pub mod Of
 pub mod Changes
 pub mod Ready
+pub mod Skipping
 pub mod Found
 pub mod Working
 pub mod Running

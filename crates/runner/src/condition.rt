@@ -1,10 +1,10 @@
 // Tests worked out over their bytes.
 ghost use Rattle.runner.specs.Working.{PairsAt, TestsAt};
 
-use crate::bytes::byte_at;
 use crate::expression::eval_at;
 use crate::skip::skip_test;
 use crate::types::{Pair, State, Verdict};
+use bytes_at::byte_at;
 
 // The values of two expressions, one behind the other, or the kind of the first fault.
 pub fn pair_at(text: &[u8], pos: usize, left: usize, state: &State) -> Result<Pair, u64>

@@ -4,8 +4,8 @@ ghost use Rattle.program.specs.Semantics.{in_range, apply_op};
 ghost use Rattle.runner.specs.Found.{as_evaluated, Evaluates};
 ghost use Rattle.runner.specs.Working.{EvaluatesAt};
 
-use crate::bytes::{byte_at, word_at};
 use crate::types::{NO_DIVISOR, NO_NUMBER, State, Value};
+use bytes_at::{byte_at, word_at};
 
 // Numbers are below this.
 const NUMBERS: u64 = 1 << 32;

@@ -2,7 +2,6 @@
 
 #![tactic(auto)]
 
-mod bytes;
 mod condition;
 mod expression;
 mod memory;
@@ -13,4 +12,5 @@ mod statement;
 mod types;
 
 pub use run::run_program;
+pub use skip::{skip_expr, skip_exprs, skip_stmt, skip_test};
 pub use types::{Outcome, RunError, State};

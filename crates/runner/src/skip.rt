@@ -1,14 +1,11 @@
 // Steps over expressions, tests and statements that are not to be run: where each ends.
-ghost use Rattle.std.specs.Prelude.{◌≡◌, ◌+◌, length};
-ghost use Rattle.program.specs.Syntax.{Expr, Test, Stmt};
-ghost use Rattle.program.specs.Encoding.{encode_expr, encode_test, encode_stmt};
-ghost use Rattle.runner.specs.Ready.{Placed};
+ghost use Rattle.runner.specs.Skipping.{ExprEnds, ExprsEnd, TestEnds, StmtEnds};
 
-use crate::bytes::byte_at;
+use bytes_at::byte_at;
 
-// The end of the expression at `pos`, of at most `left` bytes.
-fn skip_expr(text: &[u8], pos: usize, left: usize) -> usize
-    ensures { (e : Expr) → Placed text.now pos left (encode_expr e) → result ≡ pos + length (encode_expr e) }
+/// The end of the expression at `pos`, of at most `left` bytes.
+pub fn skip_expr(text: &[u8], pos: usize, left: usize) -> usize
+    ensures { ExprEnds text.now pos left result }
 {
     if left == 0 {
         return pos;
@@ -25,17 +22,17 @@ fn skip_expr(text: &[u8], pos: usize, left: usize) -> usize
     }
 }
 
-// The end of two expressions, one behind the other.
-fn skip_exprs(text: &[u8], pos: usize, left: usize) -> usize
-    ensures { (a b : Expr) → Placed text.now pos left (encode_expr a) → Placed text.now (pos + length (encode_expr a)) left (encode_expr b) → result ≡ pos + length (encode_expr a) + length (encode_expr b) }
+/// The end of two expressions, one behind the other.
+pub fn skip_exprs(text: &[u8], pos: usize, left: usize) -> usize
+    ensures { ExprsEnd text.now pos left result }
 {
     let mid = skip_expr(text, pos, left);
     skip_expr(text, mid, left)
 }
 
-// The end of a test.
+/// The end of a test.
 pub fn skip_test(text: &[u8], pos: usize, left: usize) -> usize
-    ensures { (t : Test) → Placed text.now pos left (encode_test t) → result ≡ pos + length (encode_test t) }
+    ensures { TestEnds text.now pos left result }
 {
     if left == 0 {
         return pos;
@@ -52,9 +49,9 @@ pub fn skip_test(text: &[u8], pos: usize, left: usize) -> usize
     }
 }
 
-// The end of a statement.
+/// The end of a statement.
 pub fn skip_stmt(text: &[u8], pos: usize, left: usize) -> usize
-    ensures { (d : Stmt) → Placed text.now pos left (encode_stmt d) → result ≡ pos + length (encode_stmt d) }
+    ensures { StmtEnds text.now pos left result }
 {
     if left == 0 {
         return pos;

@@ -3,8 +3,8 @@ ghost use Rattle.std.specs.Prelude.{◌≡◌, ◌≤◌, replicate, IfOk, vec_l
 ghost use Rattle.runner.specs.Starting.{Counts, ArraysMade, Starts};
 ghost use Rattle.runner.specs.declared.types.RunError.TheVariants.{NoMemory};
 
-use crate::bytes::{byte_at, word_at};
 use crate::types::{RunError, State};
+use bytes_at::{byte_at, word_at};
 use std::alloc::{AllocError, AllocFailed, Global};
 
 // The first byte of a command that loads a program.

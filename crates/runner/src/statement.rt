@@ -1,11 +1,11 @@
 // Statements run over their bytes.
 ghost use Rattle.runner.specs.Running.{ValueAt, VerdictAt, RunsStmt, RunsAssign, RunsStore, RunsInput, RunsCheck, RunsBranch, RunsLoop};
 
-use crate::bytes::{byte_at, word_at};
 use crate::condition::{pair_at, test_at};
 use crate::expression::eval_at;
 use crate::skip::skip_stmt;
 use crate::types::{FAILED_CHECK, NO_ELEMENT, State, Stop, Task, Value, Verdict};
+use bytes_at::{byte_at, word_at};
 
 // The value of an expression of the statement `number`, or its fault there.
 fn value_at(task: &Task, number: u64, pos: usize, left: usize, state: &State) -> Result<Value, Stop>
