@@ -1,66 +1,61 @@
-// Steps over the parts of an encoded program that need not be valid.
-ghost use Rattle.std.specs.Prelude.{◌≤◌, IfSome};
+// Steps over the parts of an encoded program that need not be valid: what stands behind each.
+ghost use Rattle.std.specs.Prelude.{◌≤◌, length, IfSome};
 
 // Past an expression.
-pub fn skip_expr(code: &[u8], from: usize) -> Option<usize>
-    ensures { IfSome result (λ end. from ≤ end) }
+pub fn skip_expr(code: &[u8]) -> Option<&[u8]>
+    ensures { IfSome result (λ rest. length rest.now ≤ length code.now) }
 {
-    let mut at = from;
+    let mut rest = code;
     let mut left: usize = 1;
-    while left > 0 && at < code.len() {
-        let size = match code[at] {
-            0 => {
+    while left > 0 {
+        rest = match rest {
+            [0, behind @ ..] => {
                 left -= 1;
-                9
+                behind.get(8..)?
             }
-            1 => {
+            [1, _, behind @ ..] => {
                 left -= 1;
-                2
+                behind
             }
-            2 => {
+            [2, _, behind @ ..] => {
                 left = left.saturating_add(1);
-                2
+                behind
             }
-            3 => 2,
+            [3, _, behind @ ..] => behind,
             _ => return None,
         };
-        if size > code.len() - at {
-            return None;
-        }
-        at += size;
     }
-    if left > 0 { None } else { Some(at) }
+    Some(rest)
 }
 
 // Past two expressions.
-pub fn skip_exprs(code: &[u8], from: usize) -> Option<usize>
-    ensures { IfSome result (λ end. from ≤ end) }
+pub fn skip_exprs(code: &[u8]) -> Option<&[u8]>
+    ensures { IfSome result (λ rest. length rest.now ≤ length code.now) }
 {
-    let second = skip_expr(code, from)?;
-    skip_expr(code, second)
+    skip_expr(skip_expr(code)?)
 }
 
 // Past a test, and how many tests it is made of.
-pub fn skip_test(code: &[u8], from: usize) -> Option<(usize, usize)>
-    ensures { IfSome result (λ p. from ≤ p.0) }
+pub fn skip_test(code: &[u8]) -> Option<(&[u8], u64)>
+    ensures { IfSome result (λ p. length p.0.now ≤ length code.now) }
 {
-    let mut at = from;
+    let mut rest = code;
     let mut left: usize = 1;
-    let mut tests: usize = 0;
-    while left > 0 && at < code.len() {
-        match code[at] {
-            0 | 1 => {
+    let mut tests: u64 = 0;
+    while left > 0 {
+        rest = match rest {
+            [0 | 1, behind @ ..] => {
                 left -= 1;
-                at = skip_exprs(code, at + 1)?;
+                skip_exprs(behind)?
             }
-            2 => at += 1,
-            3 | 4 => {
+            [2, behind @ ..] => behind,
+            [3 | 4, behind @ ..] => {
                 left = left.saturating_add(1);
-                at += 1;
+                behind
             }
             _ => return None,
-        }
+        };
         tests = tests.saturating_add(1);
     }
-    if left > 0 { None } else { Some((at, tests)) }
+    Some((rest, tests))
 }

@@ -1,135 +1,137 @@
 // Finds the first statement of an encoded program that passes a limit.
+ghost use Rattle.std.specs.Prelude.{◌≡◌, ◌≢◌, ◌<◌, ◌≤◌, Some, None, IfSome, IfErr, length};
+ghost use Rattle.limits.specs.declared.walk.Limit.TheVariants.{LongProgram};
+
 use crate::heads::{Head, Opens, head_at};
+use arrayvec::ArrayVec;
+use program::{ARRAYS, BYTES, LOOPS, NESTING, TESTS};
 use scanner::read_number;
 
-const NESTING: usize = 32;
+const DEPTH: usize = NESTING as usize;
 
-const LOOPS: usize = 3;
-
-const TESTS: usize = 63;
-
-const BYTES: usize = 32768;
-
-// Choices and loops more than 32 deep, loops alone more than 3, a test of more than 63 tests, a program of more than 32,768 bytes; or no limit is found.
+// Choices and loops more than 32 deep, loops alone more than 3, a test of more than 63 tests, a program of more than 32,768 bytes.
 #[derive(Clone, Copy, PartialEq, Eq, Debug)]
 pub enum Limit {
     Nesting,
     Loops,
     LongTest,
     LongProgram,
-    Unknown,
 }
 
-// A limit and the number of the statement that passes it, or 0.
+// A limit, if one is found, and the number of the statement that passes it, if there is one.
 #[derive(Clone, Copy)]
 pub struct Passed {
-    pub label: u64,
-    pub limit: Limit,
+    pub label: Option<u64>,
+    pub limit: Option<Limit>,
 }
 
-// The branches and loops in which the walk stands: how many statements are still to come in each, and which are loops.
-#[derive(Clone, Copy)]
+// A choice or a loop: how many of its statements are still to come.
+#[derive(Clone, Copy, Default)]
+struct Level {
+    left: usize,
+    is_loop: bool,
+}
+
+// The choices and loops in which the walk stands, from the outermost on.
+#[derive(Drop)]
 struct Nest {
-    depth: usize,
-    loops: usize,
-    left: [usize; 33],
-    is_loop: [bool; 33],
+    levels: ArrayVec<Level, DEPTH>,
 }
 
 impl Nest {
     // Leaves what has no statement left.
-    fn close(mut self) -> Nest {
-        while self.depth > 0 && self.depth < 33 && self.left[self.depth] == 0 {
-            if self.is_loop[self.depth] {
-                self.loops = self.loops.saturating_sub(1);
-            }
-            self.depth -= 1;
+    fn close(&mut self) {
+        while self.levels.as_slice().last().is_some_and(|level| level.left == 0) {
+            self.levels.pop();
         }
-        self
     }
 
-    // Goes into a branch or a loop of so many statements.
-    fn open(mut self, statements: usize, is_loop: bool) -> Result<Nest, Limit> {
-        if self.depth >= NESTING {
+    // How many of the levels are loops.
+    fn loops(&self) -> u64 {
+        self.levels.as_slice().iter().filter(|level| level.is_loop).count() as u64
+    }
+
+    // Goes into a choice or a loop.
+    fn open(&mut self, level: Level) -> Result<(), Limit>
+        ensures { IfErr result (λ e. e ≢ LongProgram) }
+    {
+        if self.levels.len() >= DEPTH {
             return Err(Limit::Nesting);
         }
-        if is_loop {
-            if self.loops >= LOOPS {
-                return Err(Limit::Loops);
-            }
-            self.loops += 1;
+        if level.is_loop && self.loops() >= LOOPS {
+            return Err(Limit::Loops);
         }
-        self.depth += 1;
-        self.left[self.depth] = statements;
-        self.is_loop[self.depth] = is_loop;
-        Ok(self)
+        self.levels.push(level);
+        Ok(())
     }
 
     // One statement is read.
-    fn take(mut self, head: Head) -> Result<Nest, Limit> {
-        if self.depth > NESTING {
-            return Err(Limit::Nesting);
-        }
+    fn take(&mut self, head: &Head) -> Result<(), Limit>
+        ensures { IfErr result (λ e. e ≢ LongProgram) }
+    {
         if head.tests > TESTS {
             return Err(Limit::LongTest);
         }
+        self.close();
+        if let Some(level) = self.levels.as_mut_slice().last_mut() {
+            level.left = match head.opens {
+                Opens::Pair => level.left.saturating_add(1),
+                _ => level.left.saturating_sub(1),
+            };
+        }
         match head.opens {
-            Opens::Pair => {
-                self.left[self.depth] = self.left[self.depth].saturating_add(1);
-                Ok(self)
-            }
-            Opens::Nothing => {
-                self.left[self.depth] = self.left[self.depth].saturating_sub(1);
-                Ok(self)
-            }
-            Opens::Branch => {
-                self.left[self.depth] = self.left[self.depth].saturating_sub(1);
-                self.open(2, false)
-            }
-            Opens::Loop => {
-                self.left[self.depth] = self.left[self.depth].saturating_sub(1);
-                self.open(1, true)
-            }
+            Opens::Nothing | Opens::Pair => Ok(()),
+            Opens::Branch => self.open(Level {
+                left: 2,
+                is_loop: false,
+            }),
+            Opens::Loop => self.open(Level {
+                left: 1,
+                is_loop: true,
+            }),
         }
     }
 }
 
+// The program's statement; nothing if there are too many arrays.
+fn body_of(code: &[u8]) -> &[u8]
+    ensures { length result.now ≤ length code.now }
+{
+    match read_number(code, 1) {
+        Some(arrays) if arrays <= ARRAYS => code.get(9 + 8 * arrays as usize..).unwrap_or(&[]),
+        _ => &[],
+    }
+}
+
 // The first statement that passes a limit, in a program without the command's first byte.
-pub fn find_limit(code: &[u8]) -> Passed {
-    let mut last = 0;
-    let mut at = match read_number(code, 1) {
-        Some(arrays) if arrays <= 16 => 9 + 8 * arrays as usize,
-        _ => code.len(),
-    };
+pub fn find_limit(code: &[u8]) -> Passed
+    ensures long { result.limit ≡ Some LongProgram → 32768 < length code.now }
+    ensures none { result.limit ≡ None → length code.now ≤ 32768 }
+    ensures label { IfSome result.label (λ n. 1 ≤ n) }
+{
     let mut nest = Nest {
-        depth: 0,
-        loops: 0,
-        left: [1; 33],
-        is_loop: [false; 33],
+        levels: ArrayVec::new(),
     };
-    while at < code.len() {
-        let Some(head) = head_at(code, at) else {
-            break;
-        };
-        if head.label > 0 {
-            last = head.label;
-        }
-        if at >= BYTES {
+    let mut label = None;
+    let mut rest = body_of(code);
+    while let Some(head) = head_at(rest) {
+        label = head.label.or(label);
+        if code.len() - rest.len() >= BYTES {
             return Passed {
-                label: last,
-                limit: Limit::LongProgram,
+                label,
+                limit: Some(Limit::LongProgram),
             };
         }
-        nest = match nest.close().take(head) {
-            Ok(next) => next,
-            Err(limit) => return Passed { label: last, limit },
-        };
-        at = head.end;
+        if let Err(limit) = nest.take(&head) {
+            return Passed {
+                label,
+                limit: Some(limit),
+            };
+        }
+        rest = head.rest;
     }
-    let limit = if code.len() > BYTES {
-        Limit::LongProgram
-    } else {
-        Limit::Unknown
-    };
-    Passed { label: last, limit }
+    Passed {
+        label,
+        limit: (code.len() > BYTES).then_some(Limit::LongProgram),
+    }
 }

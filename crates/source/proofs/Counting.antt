@@ -1,5 +1,6 @@
 -- A valid program's statements, counted by a scan. Rests on what the reader's scans answer.
-use Rattle.std.proofs.Common.{◌≡◌, ℕ, ◌-◌, Bool, true, false, ◌&&◌, leb, List, [], ◌∷◌, length, Some, sym, refl, ap, ◌∙◌, arith}
+use Rattle.std.proofs.Common.{◌≡◌, ℕ, ◌-◌, Bool, true, false, ◌&&◌, eqb, leb, List, [], ◌∷◌, length, Some, sym, refl, ap, ◌∙◌, arith}
+use Rattle.std.proofs.lemmas.Bool.{eqb-true}
 use borrow.Author.Tests.{clash}
 use Rattle.program.specs.Basics.{all}
 use Rattle.program.specs.Syntax.{Program}
@@ -14,6 +15,8 @@ use Rattle.scanner.specs.Trees.{stmt_form}
 use Rattle.reader.specs.Request.{Loads}
 use Rattle.scanner.proofs.OnePass.{valid_from_is}
 use Rattle.source.specs.Valid.{Encodes}
+use Rattle.source.specs.Sizes.{HasSizes}
+use Rattle.source.specs.declared.sizes.Sizes.{Sizes}
 
 picked : (a v c n l b : Bool) → (a && ((v && c) && (n && (l && b)))) ≡ true → ((v && c) && (n && l)) ≡ true
 picked true true true true true b e = refl
@@ -42,25 +45,33 @@ tail_of [] = []
 tail_of (b ∷ bs) = bs
 
 -- the program behind the command's first byte
-pub encodes_from : (program text : List ℕ) (n v a : ℕ) (h : Header) (l : Loads text h) → text ≡ 1 ∷ program → n ≡ length (stmt_numbers l.program.body) → v ≡ h.vars → a ≡ h.arrays → Encodes program n v a
+pub encodes_from : (program text : List ℕ) (s : Sizes) → HasSizes text s → text ≡ 1 ∷ program → Encodes program s.statements s.vars s.arrays
 unfolding encode valid tail_of
-encodes_from program text n v a h l e f g k =
+encodes_from program text s h e =
     record {
-      program = l.program;
-      encoded = ap tail_of (l.encoded.0 ∙ e);
-      valid = l.encoded.1;
-      statements_are = f;
-      variables_are = g ∙ l.vars;
-      arrays_are = k ∙ l.arrays;
+      program = h.loads.program;
+      encoded = ap tail_of (h.loads.encoded.0 ∙ e);
+      valid = h.loads.encoded.1;
+      statements_are = h.statements_are;
+      variables_are = h.variables_are ∙ h.loads.vars;
+      arrays_are = h.arrays_are ∙ h.loads.arrays;
     }
 
-pub encodes_same : (xs ys : List ℕ) (n n₁ v v₁ a a₁ : ℕ) → xs ≡ ys → n ≡ n₁ → v ≡ v₁ → a ≡ a₁ → Encodes xs n v a → Encodes ys n₁ v₁ a₁
-encodes_same xs ys n n₁ v v₁ a a₁ e f g h p =
+both : (a b : Bool) → (a && b) ≡ true → (a ≡ true) × (b ≡ true)
+both true true e = (refl, refl)
+both true false e = absurd (clash e)
+both false b e = absurd (clash e)
+
+-- sizes that compare as the same
+pub encodes_same : (bs : List ℕ) (s t : Sizes) → (eqb s.statements t.statements && (eqb s.vars t.vars && eqb s.arrays t.arrays)) ≡ true → Encodes bs s.statements s.vars s.arrays → Encodes bs t.statements t.vars t.arrays
+encodes_same bs s t e p =
+    let f = both _ _ e in
+    let g = both _ _ f.1 in
     record {
       program = p.program;
-      encoded = p.encoded ∙ e;
+      encoded = p.encoded;
       valid = p.valid;
-      statements_are = sym f ∙ p.statements_are;
-      variables_are = sym g ∙ p.variables_are;
-      arrays_are = sym h ∙ p.arrays_are;
+      statements_are = sym (eqb-true _ _ f.0) ∙ p.statements_are;
+      variables_are = sym (eqb-true _ _ g.0) ∙ p.variables_are;
+      arrays_are = sym (eqb-true _ _ g.1) ∙ p.arrays_are;
     }

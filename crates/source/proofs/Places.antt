@@ -1,14 +1,6 @@
 -- Offsets within a text. Rests on the definitions alone.
-use Rattle.std.proofs.Common.{ℕ, zero, suc, ◌<◌, ◌≤◌, List, [], ◌∷◌, ◌++◌, length, get_or, arith}
+use Rattle.std.proofs.Common.{ℕ, zero, suc, ◌<◌, ◌≤◌, List, [], ◌∷◌, length, get_or, arith}
 use Rattle.lexer.specs.Tokens.{Ascending}
-use Rattle.source.specs.Reading.{Within}
-
--- one offset more
-pub within_push : (end : ℕ) (xs : List ℕ) (x : ℕ) → Within end xs → x ≤ end → (k : ℕ) → k < length (xs ++ x ∷ []) → get_or (xs ++ x ∷ []) k 0 ≤ end
-within_push end [] x w l zero h = l
-within_push end [] x w l (suc k) h = absurd (omega arith)
-within_push end (y ∷ ys) x w l zero h = w 0 (omega arith)
-within_push end (y ∷ ys) x w l (suc k) h = within_push end ys x (λ j g. w (suc j) (omega arith)) l k (omega arith)
 
 ascending_low : (low high : ℕ) (is : List ℕ) → Ascending low high is → low ≤ high
 ascending_low low high [] a = a

@@ -36,7 +36,11 @@ Wrong bs i LongTest = i ≤ length bs
 Wrong bs i LongProgram = i ≤ length bs
 Wrong bs i Invalid = i ≤ length bs
 
+-- what the error says holds of the bytes
+abbrev pub Explains : List ℕ → SourceError → Type 0
+Explains bs e = Wrong bs e.offset e.reason
+
 -- a source, or why the bytes are none
 abbrev pub Reads : List ℕ → Result Source SourceError → Type 0
 Reads bs (Ok s) = Sourced bs s
-Reads bs (Err e) = Wrong bs e.offset e.reason
+Reads bs (Err e) = Explains bs e

@@ -1,13 +1,16 @@
 // Errors of lexer, parser and reader, as places in the text.
 ghost use Rattle.std.specs.Prelude.{◌≡◌, ℕ, ◌≤◌, List, length, Err};
 ghost use Rattle.lexer.specs.Tokens.{Lexes};
-ghost use Rattle.source.specs.Reading.{Within, Wrong};
+ghost use Rattle.source.specs.Reading.{Within, Wrong, Explains};
 
 use crate::reason::Reason;
 use crate::tables::start_of;
 use grammar::ParseError;
 use lexer::LexError;
 use limits::{Limit, find_limit};
+use program::FIRST;
+use std::alloc::AllocError;
+use std::fmt;
 
 #[derive(Clone, Copy)]
 pub struct SourceError {
@@ -15,28 +18,42 @@ pub struct SourceError {
     pub reason: Reason,
 }
 
-pub fn no_memory() -> SourceError
-    ensures { (bs : List ℕ) → Wrong bs result.offset result.reason }
-{
-    SourceError {
+impl SourceError {
+    const NO_MEMORY: SourceError = SourceError {
         offset: 0,
         reason: Reason::NoMemory,
+    };
+}
+
+impl fmt::Display for SourceError {
+    fn fmt<W: fmt::Write>(&self, f: &mut fmt::Formatter<W>) -> fmt::Result {
+        write!(f, "byte {}: {}", self.offset, self.reason)
     }
 }
 
-pub fn lex_error(e: LexError) -> SourceError
-    ensures { (bs : List ℕ) → Lexes bs (Err e) → Wrong bs result.offset result.reason }
-{
-    match e {
-        LexError::NoMemory => no_memory(),
-        LexError::Character(offset) => SourceError {
-            offset,
-            reason: Reason::Character,
-        },
-        LexError::TooLarge(offset) => SourceError {
-            offset,
-            reason: Reason::TooLarge,
-        },
+impl From<AllocError> for SourceError {
+    ghost from_gives = { λ _ s. (bs : List ℕ) → Explains bs s };
+
+    fn from(_e: AllocError) -> SourceError {
+        SourceError::NO_MEMORY
+    }
+}
+
+impl From<LexError> for SourceError {
+    ghost from_gives = { λ e s. (bs : List ℕ) → Lexes bs (Err e) → Explains bs s };
+
+    fn from(e: LexError) -> SourceError {
+        match e {
+            LexError::NoMemory => SourceError::NO_MEMORY,
+            LexError::Character(offset) => SourceError {
+                offset,
+                reason: Reason::Character,
+            },
+            LexError::TooLarge(offset) => SourceError {
+                offset,
+                reason: Reason::TooLarge,
+            },
+        }
     }
 }
 
@@ -58,7 +75,7 @@ fn parse_reason(e: ParseError) -> (usize, Reason)
 
 // Tokens that are no program.
 pub fn parse_error(e: ParseError, starts: &[usize], end: usize) -> SourceError
-    ensures { (bs : List ℕ) → length bs ≡ end → Within end starts.now → Wrong bs result.offset result.reason }
+    ensures { (bs : List ℕ) → length bs ≡ end → Within end starts.now → Explains bs result }
 {
     let (token, reason) = parse_reason(e);
     SourceError {
@@ -67,36 +84,38 @@ pub fn parse_error(e: ParseError, starts: &[usize], end: usize) -> SourceError
     }
 }
 
-fn limit_reason(limit: Limit) -> Reason
-    ensures { (bs : List ℕ) (i : ℕ) → i ≤ length bs → Wrong bs i result }
-{
-    match limit {
-        Limit::Nesting => Reason::Nesting,
-        Limit::Loops => Reason::Loops,
-        Limit::LongTest => Reason::LongTest,
-        Limit::LongProgram => Reason::LongProgram,
-        Limit::Unknown => Reason::Invalid,
+impl From<Limit> for Reason {
+    ghost from_gives = { λ _ r. (bs : List ℕ) (i : ℕ) → i ≤ length bs → Wrong bs i r };
+
+    fn from(limit: Limit) -> Reason {
+        match limit {
+            Limit::Nesting => Reason::Nesting,
+            Limit::Loops => Reason::Loops,
+            Limit::LongTest => Reason::LongTest,
+            Limit::LongProgram => Reason::LongProgram,
+        }
     }
 }
 
 // Where a statement begins, by its number.
-fn offset_of(offsets: &[usize], label: u64) -> usize
+fn offset_of(offsets: &[usize], label: Option<u64>) -> usize
     ensures { (end : ℕ) → Within end offsets.now → result ≤ end }
 {
-    if label >= 1 && label <= offsets.len() as u64 {
-        offsets[label as usize - 1]
-    } else {
-        0
-    }
+    let Some(place) = label.and_then(|n| n.checked_sub(FIRST)) else {
+        return 0;
+    };
+    offsets.get(place as usize).copied().unwrap_or(0)
 }
 
 // An encoded program that the reader refuses, by where its statements begin.
 pub fn limit_error(program: &[u8], offsets: &[usize]) -> SourceError
-    ensures { (bs : List ℕ) → Within (length bs) offsets.now → Wrong bs result.offset result.reason }
+    ensures { (bs : List ℕ) → Within (length bs) offsets.now → Explains bs result }
 {
     let passed = find_limit(program);
-    SourceError {
-        offset: offset_of(offsets, passed.label),
-        reason: limit_reason(passed.limit),
-    }
+    let offset = offset_of(offsets, passed.label);
+    let reason = match passed.limit {
+        Some(limit) => Reason::from(limit),
+        None => Reason::Invalid,
+    };
+    SourceError { offset, reason }
 }

@@ -4,8 +4,8 @@
 
 mod errors;
 mod reason;
+mod sizes;
 mod tables;
-mod valid;
 mod whole;
 
 pub use errors::SourceError;

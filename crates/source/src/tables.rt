@@ -8,11 +8,7 @@ use std::alloc::{AllocError, Global};
 pub fn start_of(starts: &[usize], token: usize, end: usize) -> usize
     ensures { Within end starts.now → result ≤ end }
 {
-    if token < starts.len() {
-        starts[token]
-    } else {
-        end
-    }
+    starts.get(token).copied().unwrap_or(end)
 }
 
 // Where each statement begins.
@@ -25,11 +21,10 @@ pub fn offsets(
     requires { Within end starts.now }
     ensures { IfOk result (λ v. (vec_len v ≡ length places.now) × Within end v.items) }
 {
-    let mut all = Vec::new(heap);
-    for place in places {
-        all.push(start_of(starts, *place, end))?;
-    }
-    Ok(all)
+    places
+        .iter()
+        .map(|place| start_of(starts, *place, end))
+        .collect(heap)
 }
 
 // The words with these numbers; a number that is that of no word is passed over.
@@ -38,11 +33,8 @@ pub fn pick<'a>(
     words: &[&'a str],
     numbers: &[usize],
 ) -> Result<Vec<&'a str>, AllocError> {
-    let mut all = Vec::new(heap);
-    for i in numbers {
-        if *i < words.len() {
-            all.push(words[*i])?;
-        }
-    }
-    Ok(all)
+    numbers
+        .iter()
+        .filter_map(|i| words.get(*i).copied())
+        .collect(heap)
 }

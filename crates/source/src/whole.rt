@@ -2,10 +2,10 @@
 ghost use Rattle.std.specs.Prelude.{◌≡◌, ℕ, List, length};
 ghost use Rattle.source.specs.Reading.{Within, Wrong, Reads};
 
-use crate::errors::{SourceError, lex_error, limit_error, no_memory, parse_error};
+use crate::errors::{SourceError, limit_error, parse_error};
 use crate::reason::Reason;
+use crate::sizes::{Sizes, is_valid};
 use crate::tables::{offsets, pick};
-use crate::valid::is_valid;
 use lexer::{Lexed, lex};
 use parser::{Parsed, parse};
 use std::alloc::Global;
@@ -19,13 +19,6 @@ pub struct Source<'a> {
     pub arrays: Vec<&'a str>,
 }
 
-// Why the reader refuses a program.
-fn refusal(program: &Vec<u8>, starts: &Vec<usize>) -> SourceError
-    ensures { (bs : List ℕ) → Within (length bs) starts.now.items → Wrong bs result.offset result.reason }
-{
-    limit_error(program.as_slice(), starts.as_slice())
-}
-
 // A parsed program with its places and words, if it is valid.
 fn assemble<'a>(
     heap: Global,
@@ -36,26 +29,16 @@ fn assemble<'a>(
     requires { Within end lexed.starts.items }
     ensures { (bs : List ℕ) → length bs ≡ end → Reads bs result }
 {
-    let Ok(starts) = offsets(heap, lexed.starts.as_slice(), parsed.places.as_slice(), end) else {
-        return Err(no_memory());
+    let starts = offsets(heap, lexed.starts.as_slice(), parsed.places.as_slice(), end)?;
+    let variables = pick(heap, lexed.words.as_slice(), parsed.variables.as_slice())?;
+    let arrays = pick(heap, lexed.words.as_slice(), parsed.arrays.as_slice())?;
+    let sizes = Sizes {
+        statements: starts.len() as u64,
+        vars: variables.len() as u64,
+        arrays: arrays.len() as u64,
     };
-    let Ok(variables) = pick(heap, lexed.words.as_slice(), parsed.variables.as_slice()) else {
-        return Err(no_memory());
-    };
-    let Ok(arrays) = pick(heap, lexed.words.as_slice(), parsed.arrays.as_slice()) else {
-        return Err(no_memory());
-    };
-    let Ok(valid) = is_valid(
-        heap,
-        parsed.program.as_slice(),
-        starts.len(),
-        variables.len(),
-        arrays.len(),
-    ) else {
-        return Err(no_memory());
-    };
-    if !valid {
-        return Err(refusal(&parsed.program, &starts));
+    if !is_valid(heap, parsed.program.as_slice(), sizes)? {
+        return Err(limit_error(parsed.program.as_slice(), starts.as_slice()));
     }
     Ok(Source {
         program: parsed.program,
@@ -70,30 +53,28 @@ fn read_tokens<'a>(heap: Global, lexed: Lexed<'a>, end: usize) -> Result<Source<
     requires { Within end lexed.starts.items }
     ensures { (bs : List ℕ) → length bs ≡ end → Reads bs result }
 {
-    match parse(heap, lexed.tokens.as_slice()) {
-        Ok(parsed) => assemble(heap, lexed, parsed, end),
-        Err(e) => Err(parse_error(e, lexed.starts.as_slice(), end)),
-    }
+    let parsed = parse(heap, lexed.tokens.as_slice()).map_err(|e| parse_error(
+        e,
+        lexed.starts.as_slice(),
+        end,
+    ))?;
+    assemble(heap, lexed, parsed, end)
 }
 
 fn read_text<'a>(heap: Global, text: &'a str) -> Result<Source<'a>, SourceError>
     ensures { Reads text.now result }
 {
-    match lex(heap, text) {
-        Ok(lexed) => read_tokens(heap, lexed, text.len()),
-        Err(e) => Err(lex_error(e)),
-    }
+    let lexed = lex(heap, text)?;
+    read_tokens(heap, lexed, text.len())
 }
 
 // Reads a program's text from its bytes.
 pub fn read_source<'a>(heap: Global, bytes: &'a [u8]) -> Result<Source<'a>, SourceError>
     ensures { Reads bytes.now result }
 {
-    match std::str::from_utf8(bytes) {
-        Ok(text) => read_text(heap, text),
-        Err(e) => Err(SourceError {
-            offset: e.valid_up_to(),
-            reason: Reason::NotText,
-        }),
-    }
+    let text = std::str::from_utf8(bytes).map_err(|e| SourceError {
+        offset: e.valid_up_to(),
+        reason: Reason::NotText,
+    })?;
+    read_text(heap, text)
 }

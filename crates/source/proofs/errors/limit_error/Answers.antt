@@ -1,5 +1,5 @@
 use Rattle.std.proofs.Common.{length}
 use Rattle.source.proofs.errors.limit_error.Goals as goal
 
-pub returns : goal.returns
-returns c = λ bs w. c.limit_reason.ensures bs c.offset_of.result (c.offset_of.ensures (length bs) w)
+pub returns-in-Some : goal.returns-in-Some
+returns-in-Some c = λ bs w. c.from-reason.ensures bs c.offset_of-offset.result (c.offset_of-offset.ensures (length bs) w)

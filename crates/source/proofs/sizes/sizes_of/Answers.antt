@@ -1,5 +1,5 @@
 use Rattle.std.proofs.Common.{refl}
-use Rattle.source.proofs.valid.sizes_of.Goals as goal
+use Rattle.source.proofs.sizes.sizes_of.Goals as goal
 
 pub returns : goal.returns
 returns c =
