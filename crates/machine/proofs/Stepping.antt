@@ -1,18 +1,20 @@
 -- One step of the machine, by what is asked for. Rests on model's steps, case by case.
-use Rattle.std.proofs.Common.{◌≡◌, ℕ, ◌<◌, ◌≤◌, Bool, true, false, eqb, List, length, get_or, sym, refl, ap, ◌∙◌, subst}
-use Rattle.std.proofs.lemmas.Bool.{ltb-true}
+use Rattle.std.proofs.Common.{◌≡◌, ℕ, ◌<◌, ◌≤◌, Bool, true, eqb, leb, List, ◌++◌, length, get_or, take, drop, sym, refl, ap, ◌∙◌, subst, arith, append_assoc}
+use Rattle.std.proofs.lemmas.List.{length-take-le, take-append-drop, drop-append-le}
+use Rattle.std.proofs.lemmas.Bool.{ltb-true, and_from, false_from_ne_true, eq-eqb, le-leb}
 use Rattle.program.specs.Command.{Command, all_alarms, at_end, valid}
-use Rattle.model.specs.Promise.{command, next, done, Step}
+use Rattle.model.specs.Promise.{Act, shows, done, refused, Event, command, next, Step}
 use Rattle.model.specs.Memory.{memory_size, laid}
 use Rattle.model.specs.Machine.{stepped, show_from, show_end}
 use Rattle.model.specs.Entry.{own, event_of, step_fits}
-use Rattle.model.proofs.Owed.{fits_is, fits_length, step_refused, step_load, step_alarms, step_next, step_end}
+use Rattle.model.proofs.Rows.{RowShort, step_short}
+use Rattle.model.proofs.Owed.{fits_is, step_refused, step_load, step_alarms, step_next, step_end}
 use Rattle.reader.specs.declared.load.Header.{Header}
 use Rattle.reader.specs.Request.{EncodingOf, Loads}
 use Rattle.tables.specs.declared.types.Told.{Told}
 use Rattle.tables.specs.declared.types.Told.TheVariants.{Done, No}
-use Rattle.tables.specs.Telling.{StepTold}
-use Rattle.machine.specs.Entry.{asked_properly, StepSays}
+use Rattle.tables.specs.Telling.{ActTold, StepTold}
+use Rattle.machine.specs.Entry.{StepSays}
 use Rattle.tables.proofs.Showing.{told_done, told_refused}
 
 -- what is told of a step is told of the same step
@@ -47,27 +49,34 @@ obeyed_nothing m text out h = told_refused (own.step m (command text)) m out 1 (
 pub gone_on : (m out m₁ out₁ : List ℕ) (r : Told) → StepTold (show_from m (get_or m 2 0)) out r m₁ out₁ → StepTold (own.step m next) out r m₁ out₁
 gone_on m out m₁ out₁ r s = told_same (own.step m next) (show_from m (get_or m 2 0)) out r m₁ out₁ (step_next m) s
 
--- what is asked for properly
-pub asked_lengths : (m : List ℕ) (kind : ℕ) (out : List ℕ) → true ≡ asked_properly m kind out → (length m ≡ memory_size) × (16 ≤ length out)
-asked_lengths m kind out e = let q = fits_length m kind out (fits_is m kind out ∙ sym e) in (q.0, q.2)
+-- a row of sixteen bytes at the front of those that are lent
+act_wide : (a : Act) (out row₁ : List ℕ) (r : Told) → 16 ≤ length out → RowShort a → ActTold a r (take 16 out) row₁ → ActTold a r out (row₁ ++ drop 16 out)
+unfolding ActTold
+act_wide (shows s) out row₁ r room short h = (
+  h.0,
+  ap (λ (xs : List ℕ). xs ++ drop 16 out) h.1 ∙ append_assoc s (drop (length s) (take 16 out)) (drop 16 out)
+      ∙ ap (λ (xs : List ℕ). s ++ xs) (sym (drop-append-le (length s) (take 16 out) (drop 16 out) (omega (arith, short, length-take-le 16 out room))) ∙ ap (λ (xs : List ℕ). drop (length s) xs) (take-append-drop 16 out)),
+)
+act_wide done out row₁ r room short h = (h.0, ap (λ (xs : List ℕ). xs ++ drop 16 out) h.1 ∙ take-append-drop 16 out)
+act_wide (refused k) out row₁ r room short h = (h.0, ap (λ (xs : List ℕ). xs ++ drop 16 out) h.1 ∙ take-append-drop 16 out)
 
--- a step that is not asked for properly
-pub says_unfit : (m : List ℕ) (kind : ℕ) (text out : List ℕ) → false ≡ asked_properly m kind out → StepSays m kind text out (step_fits m kind out) (No 0) m out
+-- a step that is asked for properly
+pub says_fit : (m : List ℕ) (kind : ℕ) (text out words row : List ℕ) (e : Event) (r : Told) (m₁ row₁ : List ℕ) → length m ≡ memory_size → words ≡ m → kind ≤ 1 → event_of kind text ≡ e →
+    16 ≤ length out → row ≡ take 16 out → StepTold (own.step words e) row r m₁ row₁ → StepSays m kind text out (step_fits m kind out) r m₁ (row₁ ++ drop 16 out)
 unfolding StepSays
-says_unfit m kind text out e = subst (λ (b : Bool). StepSays m kind text out b (No 0) m out) (e ∙ sym (fits_is m kind out)) (refl, refl, refl)
+says_fit m kind text out words row e r m₁ row₁ long same small is room front h =
+    let fits : step_fits m kind out ≡ true = fits_is m kind out ∙ and_from (eqb (length m) memory_size) _ (eq-eqb (length m) memory_size long) (and_from (leb kind 1) (leb 16 (length out)) (le-leb kind 1 small) (le-leb 16 (length out) room)) in
+    let at : StepTold (own.step m (event_of kind text)) (take 16 out) r m₁ row₁ =
+    subst (λ (ws : List ℕ). StepTold (own.step ws (event_of kind text)) (take 16 out) r m₁ row₁) same
+    (subst (λ (f : Event). StepTold (own.step words f) (take 16 out) r m₁ row₁) (sym is) (subst (λ (xs : List ℕ). StepTold (own.step words e) xs r m₁ row₁) front h)) in
+    subst (λ (b : Bool). StepSays m kind text out b r m₁ (row₁ ++ drop 16 out)) (sym fits)
+    (at.0, act_wide (own.step m (event_of kind text)).act out row₁ r room (step_short m (event_of kind text)) at.1)
 
--- one that is
-says_fit : (m : List ℕ) (kind : ℕ) (text out : List ℕ) (r : Told) (m₁ out₁ : List ℕ) → true ≡ asked_properly m kind out →
-    StepTold (own.step m (event_of kind text)) out r m₁ out₁ → StepSays m kind text out (step_fits m kind out) r m₁ out₁
+-- one that is not
+pub says_unfit : (m : List ℕ) (kind : ℕ) (text out m₁ out₁ : List ℕ) → (step_fits m kind out ≡ true → ⊥) → m₁ ≡ m → out₁ ≡ out → StepSays m kind text out (step_fits m kind out) (No 0) m₁ out₁
 unfolding StepSays
-says_fit m kind text out r m₁ out₁ e h = subst (λ (b : Bool). StepSays m kind text out b r m₁ out₁) (e ∙ sym (fits_is m kind out)) h
+says_unfit m kind text out m₁ out₁ h e f = subst (λ (b : Bool). StepSays m kind text out b (No 0) m₁ out₁) (sym (false_from_ne_true (step_fits m kind out) h)) (refl, e, f)
 
--- a command
-pub says_command : (m : List ℕ) (kind : ℕ) (text out : List ℕ) (r : Told) (m₁ out₁ : List ℕ) → true ≡ asked_properly m kind out → true ≡ eqb kind 0 →
-    StepTold (own.step m (command text)) out r m₁ out₁ → StepSays m kind text out (step_fits m kind out) r m₁ out₁
-says_command m kind text out r m₁ out₁ e z h = says_fit m kind text out r m₁ out₁ e (rw (sym z) h)
-
--- to go on
-pub says_next : (m : List ℕ) (kind : ℕ) (text out : List ℕ) (r : Told) (m₁ out₁ : List ℕ) → true ≡ asked_properly m kind out → false ≡ eqb kind 0 →
-    StepTold (own.step m next) out r m₁ out₁ → StepSays m kind text out (step_fits m kind out) r m₁ out₁
-says_next m kind text out r m₁ out₁ e z h = says_fit m kind text out r m₁ out₁ e (rw (sym z) h)
+-- the row put back as it was
+pub row_back : (out row : List ℕ) → row ≡ take 16 out → row ++ drop 16 out ≡ out
+row_back out row e = ap (λ (xs : List ℕ). xs ++ drop 16 out) e ∙ take-append-drop 16 out

@@ -1,13 +1,9 @@
 -- How a step of the machine is told to the world outside. Assumes nothing: these are definitions.
-use Rattle.std.specs.Prelude.{◌≡◌, ℕ, Bool, true, false, ◌&&◌, List, length, ◌==◌, nat_le}
+use Rattle.std.specs.Prelude.{◌≡◌, ℕ, Bool, true, false, List}
 use Rattle.model.specs.Entry.{own, event_of}
 use Rattle.tables.specs.declared.types.Told.{Told}
 use Rattle.tables.specs.declared.types.Told.TheVariants.{No}
 use Rattle.tables.specs.Telling.{StepTold}
-
--- a memory of the machine's length, a kind of 0 or 1, and sixteen bytes to show a row in
-abbrev pub asked_properly : (memory : List ℕ) (kind : ℕ) (out : List ℕ) → Bool
-asked_properly memory kind out = length memory == 22083 && (nat_le kind 1 && nat_le 16 (length out))
 
 -- one step of the machine, if it is asked for properly; else number 0 is told and nothing is changed
 unfoldable pub StepSays : (memory : List ℕ) (kind : ℕ) (text out : List ℕ) → Bool → Told → (memory₁ out₁ : List ℕ) → Type 0

@@ -24,13 +24,6 @@ fn code_of(told: Told) -> u64
     }
 }
 
-// The number of what a step tells.
-fn coded_step(memory: &mut [u64], kind: u64, text: &[u8], out: &mut [u8]) -> u64
-    ensures { StepCoded memory.old kind text.now out.old result memory.new out.new }
-{
-    code_of(step(memory, kind, text, out))
-}
-
 // How many words the memory has.
 pub fn yunthrewi_memory_len() -> u64
     ensures { result ≡ memory_size }
@@ -43,5 +36,5 @@ pub fn yunthrewi_memory_len() -> u64
 pub fn yunthrewi_step(memory: &mut [u64], kind: u64, text: &[u8], out: &mut [u8]) -> u64
     ensures { StepCoded memory.old kind text.now out.old result memory.new out.new }
 {
-    coded_step(memory, kind, text, out)
+    code_of(step(memory, kind, text, out))
 }

@@ -1,6 +1,5 @@
 -- Rows told apart by their bytes. Rests on that numbers are read back from their eight bytes.
-use Rattle.std.proofs.Common.{◌≡◌, ℕ, ◌/◌, ◌%◌, ◌^◌, ◌<◌, List, [], ◌∷◌, ◌++◌, length, get_or, take, sym, refl, ap, ◌∙◌, inl, inr, ⊎_elim, arith, drop-cons}
-use native.Mathlib.Nat.{div-div-eq-div-mul}
+use Rattle.std.proofs.Common.{◌≡◌, ℕ, ◌^◌, ◌<◌, List, [], ◌∷◌, ◌++◌, length, get_or, take, sym, refl, ap, ◌∙◌, inl, inr, ⊎_elim, arith, drop-cons}
 use Rattle.std.specs.List.{AllByRecursion as All}
 use Rattle.program.specs.Basics.{in_bytes, eight}
 use Rattle.encoding.specs.Reader.{ok, read_eight}
@@ -21,12 +20,6 @@ alarm_read out a l s =
 pub bounds_read : (out : List ℕ) (a b : ℕ) → Stands out 0 (eight a) → Stands out 8 (eight b) → eight a ++ eight b ≡ take 16 out
 unfolding in_bytes
 bounds_read out a b s t = sym (ap (λ (xs : List ℕ). take 16 xs) (s ∙ ap (λ (xs : List ℕ). eight a ++ xs) t))
-
--- a number's bytes by quotients
-pub eight_is : (n : ℕ) → eight n ≡ (n / 72057594037927936 % 256) ∷ (n / 281474976710656 % 256) ∷ (n / 1099511627776 % 256) ∷ (n / 4294967296 % 256) ∷ (n / 16777216 % 256) ∷ (n / 65536 % 256)
-    ∷ (n / 256 % 256) ∷ (n % 256) ∷ []
-unfolding in_bytes
-eight_is n = simp div-div-eq-div-mul
 
 -- numbers and what stands behind them, by their bytes
 eight_same : (a b : ℕ) (xs ys : List ℕ) → a < 2 ^ 64 → b < 2 ^ 64 → eight a ++ xs ≡ eight b ++ ys → (a ≡ b) × (xs ≡ ys)

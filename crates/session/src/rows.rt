@@ -1,13 +1,14 @@
 // A row that a command shows.
-ghost use Rattle.std.specs.Prelude.{◌≡◌, ◌⊎◌, ◌++◌, length, take, IfOk};
+ghost use Rattle.std.specs.Prelude.{◌≡◌, ◌⊎◌, ◌++◌, take, IfOk};
 ghost use Rattle.session.specs.Rows.{row_bytes, Words};
 
 use scanner::read_number;
 use std::alloc::{AllocError, Global};
+use tables::ROW;
 
 #[derive(Clone, Copy, PartialEq, Eq, Debug)]
 pub enum Row {
-    // A statement that can go wrong, and how.
+    // A statement that can go wrong, and how: the byte that the machine shows, since a row stands for any nine bytes.
     Alarm { stmt: u64, kind: u8 },
     // The ends of a variable's interval.
     Bounds { lo: u64, hi: u64 },
@@ -35,9 +36,8 @@ impl Row {
 }
 
 // The row in the first `n` bytes.
-pub fn read_row(out: &[u8], n: u64) -> Row
-    requires room { length out.now ≡ 16 }
-    requires size { (n ≡ 9) ⊎ (n ≡ 16) }
+pub fn read_row(out: &[u8; ROW], n: u64) -> Row
+    requires { (n ≡ 9) ⊎ (n ≡ 16) }
     ensures bytes { row_bytes result ≡ take n out.now }
     ensures words { Words result }
 {

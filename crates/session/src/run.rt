@@ -5,26 +5,13 @@ ghost use Rattle.session.specs.Answers.{Ended, Kept};
 use crate::rows::{Row, read_row};
 use machine::{Told, step};
 use std::alloc::{AllocError, Global};
+use tables::ROW;
 
-// What a command shows, and how it ends: with 0, or with the number of its refusal.
+// What a command shows, and how it ends: with 0, or with the number of its refusal, as the machine's answers are numbered.
 #[derive(Drop)]
 pub struct Answer {
     pub rows: Vec<Row>,
     pub end: u64,
-}
-
-impl Answer {
-    fn done(rows: Vec<Row>) -> Answer
-        ensures { (result.rows ≡ rows) × (result.end ≡ 0) }
-    {
-        Answer { rows, end: 0 }
-    }
-
-    fn refused(rows: Vec<Row>, number: u64) -> Answer
-        ensures { (result.rows ≡ rows) × (result.end ≡ number) }
-    {
-        Answer { rows, end: number }
-    }
 }
 
 // Step after step, until the command has ended. It ends since each row moves the cursor on.
@@ -33,14 +20,14 @@ pub fn run_command(memory: &mut [u64], heap: Global, text: &[u8]) -> Result<Answ
     ensures ended { IfOk result (λ a. Ended memory.old text.now a.rows.items a.end memory.new) }
     ensures kept { OnErr result (Kept memory.old memory.new) }
 {
-    let mut out = [0u8; 16];
+    let mut out = [0u8; ROW];
     let mut rows = Vec::new(heap);
     let mut kind = 0;
     loop {
         match step(memory, kind, text, &mut out) {
             Told::Shows(n) => rows.push(read_row(&out, n))?,
-            Told::Done => return Ok(Answer::done(rows)),
-            Told::No(number) => return Ok(Answer::refused(rows, number)),
+            Told::Done => return Ok(Answer { rows, end: 0 }),
+            Told::No(number) => return Ok(Answer { rows, end: number }),
         }
         kind = 1;
     }

@@ -15,3 +15,5 @@ pub const SLOTS: usize = 10920;
 pub const SCRATCH: usize = 11083;
 // How many words there are.
 pub const WORDS: usize = 22083;
+// A row has at most so many bytes.
+pub const ROW: usize = 16;

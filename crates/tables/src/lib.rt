@@ -8,7 +8,7 @@ mod results;
 mod show;
 mod types;
 
-pub use layout::{CURSOR, SCRATCH, SLOTS, WORDS};
+pub use layout::{CURSOR, ROW, SCRATCH, SLOTS, WORDS};
 pub use results::store;
 pub use show::{show_end, show_from};
 pub use types::Told;

@@ -3,7 +3,7 @@ ghost use Rattle.std.specs.Prelude.{◌≡◌, ◌*◌, length};
 ghost use Rattle.model.specs.Memory.{zeros, bounds, end_bounds, no_end, memory_with};
 ghost use Rattle.state.specs.Of.{as_intervals, as_abstract};
 
-use crate::layout::{CURSOR, ENDS, NO_END, SCRATCH, TABLE, VARS, WORDS};
+use crate::layout::{CURSOR, ENDS, NO_END, SCRATCH, SLOTS, TABLE, VARS, WORDS};
 use interval::Interval;
 use state::Abstract;
 
@@ -24,9 +24,9 @@ fn store_intervals(words: &mut [u64], list: &[Interval])
     requires { length words.old ≡ 2 * length list.now }
     ensures { words.new ≡ bounds (length list.now) (as_intervals list.now) }
 {
-    for i in 0..list.len() {
-        words[2 * i] = list[i].lo;
-        words[2 * i + 1] = list[i].hi;
+    for (i, interval) in list.iter().enumerate() {
+        words[2 * i] = interval.lo;
+        words[2 * i + 1] = interval.hi;
     }
 }
 
@@ -48,15 +48,11 @@ fn store_ends(words: &mut [u64], state: &Abstract)
 fn no_end(state: &Abstract) -> u64
     ensures { result ≡ no_end (as_abstract state.now) }
 {
-    match state {
-        Abstract::Unreached => 1,
-        Abstract::Reached(_) => 0,
-    }
+    u64::from(matches!(state, Abstract::Unreached))
 }
 
 // The memory of a program with so many variables, of which this is known at the end, and whose alarms are marked in the table.
-pub fn store(memory: &mut [u64], vars: u64, state: &Abstract, table: &[u64])
-    requires { (length memory.old ≡ 22083) × (length table.now ≡ 10920) }
+pub fn store(memory: &mut [u64; WORDS], vars: u64, state: &Abstract, table: &[u64; SLOTS])
     ensures { memory.new ≡ memory_with 0 vars (as_abstract state.now) table.now }
 {
     memory[VARS] = vars;

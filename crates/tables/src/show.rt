@@ -1,53 +1,33 @@
 // Rows shown from the memory: alarms, one after another, and a variable's interval at the end.
-ghost use Rattle.std.specs.Prelude.{◌≡◌, ◌+◌, ◌*◌, ◌<◌, ◌≤◌, ◌++◌, length, drop, ◌==◌, slice_index, slice_set};
+ghost use Rattle.std.specs.Prelude.{◌≡◌, ◌<◌, ◌++◌, drop};
+ghost use Rattle.std.specs.List.{position};
 ghost use Rattle.model.specs.Machine.{slot_row, mark_from, show_from, show_end};
 ghost use Rattle.tables.specs.Telling.{StepTold};
-ghost use Rattle.tables.specs.Slots.{Finds};
+ghost use Rattle.tables.specs.Slots.{is_mark, Finds};
 
 use crate::bytes::write_number;
-use crate::layout::{CURSOR, ENDS, NO_END, SLOTS, TABLE, VARS};
+use crate::layout::{CURSOR, ENDS, NO_END, ROW, SCRATCH, SLOTS, TABLE, VARS, WORDS};
 use crate::types::Told;
 
-// Whether a slot is not marked.
-fn is_clear(memory: &[u64], slot: usize) -> bool
-    requires { (length memory.now ≡ 22083) × (slot < 10920) }
-    ensures { result ≡ (slice_index memory.now (163 + slot) == 0) }
+// Where the first mark is.
+fn first_mark(marks: &[u64]) -> Option<usize>
+    ensures { result ≡ position is_mark marks.now }
 {
-    memory[TABLE + slot] == 0
+    marks.iter().position(|&mark| mark != 0)
 }
 
 // The first slot from `cursor` on that is marked.
-fn find_mark(memory: &[u64], cursor: usize) -> Option<usize>
-    requires { length memory.now ≡ 22083 }
+fn find_mark(memory: &[u64; WORDS], cursor: usize) -> Option<usize>
     ensures { Finds (mark_from memory.now cursor) result }
 {
-    for i in cursor..SLOTS {
-        if !is_clear(memory, i) {
-            return Some(i);
-        }
-    }
-    None
-}
-
-// The cursor goes behind a slot.
-fn pass(memory: &mut [u64], slot: usize)
-    requires { (length memory.old ≡ 22083) × (slot < 10920) }
-    ensures { memory.new ≡ slice_set memory.old 2 (slot + 1) }
-{
-    memory[CURSOR] = slot as u64 + 1;
-}
-
-// The cursor goes behind the last slot.
-fn pass_all(memory: &mut [u64])
-    requires { length memory.old ≡ 22083 }
-    ensures { memory.new ≡ slice_set memory.old 2 10920 }
-{
-    memory[CURSOR] = SLOTS as u64;
+    let marks = memory[TABLE..SCRATCH].get(cursor..)?;
+    let passed = first_mark(marks)?;
+    Some(cursor + passed)
 }
 
 // The alarm of a slot, in nine bytes: its statement, then its kind.
-fn write_alarm(out: &mut [u8], slot: usize)
-    requires { (16 ≤ length out.old) × (slot < 10920) }
+fn write_alarm(out: &mut [u8; ROW], slot: usize)
+    requires { slot < 10920 }
     ensures { out.new ≡ slot_row slot ++ drop 9 out.old }
 {
     write_number(out, 0, slot as u64 / 4 + 1);
@@ -55,41 +35,25 @@ fn write_alarm(out: &mut [u8], slot: usize)
 }
 
 // The first alarm from `cursor` on is shown and the cursor moved behind it; if there is none, the command has ended.
-pub fn show_from(memory: &mut [u64], cursor: usize, out: &mut [u8]) -> Told
-    requires { (length memory.old ≡ 22083) × (16 ≤ length out.old) }
+pub fn show_from(memory: &mut [u64; WORDS], cursor: usize, out: &mut [u8; ROW]) -> Told
     ensures { StepTold (show_from memory.old cursor) out.old result memory.new out.new }
 {
     match find_mark(memory, cursor) {
         Some(i) => {
-            pass(memory, i);
+            memory[CURSOR] = i as u64 + 1;
             write_alarm(out, i);
             Told::Shows(9)
         }
         None => {
-            pass_all(memory);
+            memory[CURSOR] = SLOTS as u64;
             Told::Done
         }
     }
 }
 
-// The bounds of variable x at the end.
-fn low_end(memory: &[u64], x: usize) -> u64
-    requires { (length memory.now ≡ 22083) × (x < 64) }
-    ensures { result ≡ slice_index memory.now (3 + 2 * x) }
-{
-    memory[ENDS + 2 * x]
-}
-
-fn high_end(memory: &[u64], x: usize) -> u64
-    requires { (length memory.now ≡ 22083) × (x < 64) }
-    ensures { result ≡ slice_index memory.now (4 + 2 * x) }
-{
-    memory[ENDS + 1 + 2 * x]
-}
-
 // Variable x's interval at the end is shown; nothing is if no run comes to an end, and there must be such a variable.
-pub fn show_end(memory: &mut [u64], x: usize, out: &mut [u8]) -> Told
-    requires { (length memory.old ≡ 22083) × ((x < 64) × (16 ≤ length out.old)) }
+pub fn show_end(memory: &mut [u64; WORDS], x: usize, out: &mut [u8; ROW]) -> Told
+    requires { x < 64 }
     ensures { StepTold (show_end memory.old x) out.old result memory.new out.new }
 {
     if x as u64 >= memory[VARS] {
@@ -98,8 +62,9 @@ pub fn show_end(memory: &mut [u64], x: usize, out: &mut [u8]) -> Told
     if memory[NO_END] != 0 {
         return Told::Done;
     }
-    write_number(out, 0, low_end(memory, x));
-    write_number(out, 8, high_end(memory, x));
-    pass_all(memory);
+    let bounds = ENDS + 2 * x;
+    write_number(out, 0, memory[bounds]);
+    write_number(out, 8, memory[bounds + 1]);
+    memory[CURSOR] = SLOTS as u64;
     Told::Shows(16)
 }

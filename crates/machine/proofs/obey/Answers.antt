@@ -1,18 +1,15 @@
 use Rattle.reader.proofs.Hearing.{loads_read, alarms_asked, end_asked}
-use Rattle.machine.proofs.Analysing.{loads_bounded}
+use Rattle.std.proofs.Common.{arith}
 use Rattle.machine.proofs.Stepping.{obeyed_load, obeyed_alarms, obeyed_end, obeyed_nothing, variable_small}
 use Rattle.machine.proofs.obey.Goals as goal
 
-pub load-requires : goal.load-requires
-load-requires c = (c.requires.0, loads_bounded c.args.text.now c.in-Load.header (loads_read _ _ _ c.in-Load.is c.in-Some.ensures))
-
 pub show_end-requires : goal.show_end-requires
-show_end-requires c = (c.requires.0, (variable_small c.args.text.now c.in-AtEnd.x (end_asked _ _ _ c.in-AtEnd.is c.in-Some.ensures), c.requires.1))
+show_end-requires c = variable_small c.args.text.now c.in-AtEnd.x (end_asked _ _ _ c.in-AtEnd.is c.in-Some.ensures)
 
 pub returns-in-Load : goal.returns-in-Load
 returns-in-Load c =
     let l = (loads_read _ _ _ c.in-Load.is c.in-Some.ensures) in
-    obeyed_load c.args.memory.now c.args.text.now c.args.out.now c.load.new.memory c.in-Load.header l c.requires.0 (c.load.ensures l)
+    obeyed_load c.args.memory.now c.args.text.now c.args.out.now c.load.new.memory c.in-Load.header l (omega arith) (c.load.ensures l)
 
 pub returns-in-Alarms : goal.returns-in-Alarms
 returns-in-Alarms c =

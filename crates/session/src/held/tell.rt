@@ -1,5 +1,5 @@
 // What a session is told, and what it answers.
-ghost use Rattle.std.specs.Prelude.{◌≡◌, [], ◌∷◌, replicate, IfOk, OnErr};
+ghost use Rattle.std.specs.Prelude.{[], ◌∷◌, IfOk, OnErr};
 ghost use Rattle.program.specs.Syntax.{Program};
 ghost use Rattle.program.specs.Command.{empty_program};
 ghost use Rattle.session.specs.Answers.{Answered, Kept, FaultsShown, EndsShown};
@@ -8,29 +8,15 @@ ghost use Rattle.session.specs.Sessions.{Holds, held_words};
 use super::Session;
 use crate::run::{Answer, run_command};
 use std::alloc::{AllocError, Global};
-
-const WORDS: usize = 22083;
-
-// `n` zeros.
-fn zeros(heap: Global, n: usize) -> Result<Vec<u64>, AllocError>
-    ensures { IfOk result (λ v. v.items ≡ replicate n 0) }
-{
-    vec![in heap; 0; n]
-}
-
-// The machine's memory at the start.
-fn cleared(heap: Global) -> Result<Vec<u64>, AllocError>
-    ensures { IfOk result (λ v. v.items ≡ replicate 22083 0) }
-{
-    zeros(heap, WORDS)
-}
+use tables::WORDS;
+use valid::load_command;
 
 impl Session {
     // At first there is the program that does nothing.
     pub fn new(heap: Global) -> Result<Session, AllocError>
         ensures { IfOk result (λ s. Holds s empty_program) }
     {
-        let memory = cleared(heap)?;
+        let memory = vec![in heap; 0; WORDS]?;
         Ok(Session { memory })
     }
 
@@ -67,9 +53,7 @@ impl Session {
         ensures answers { IfOk result (λ a. (p : Program) → Holds self.old p → Answered (1 ∷ program.now) a.rows.items a.end (held_words self.new) p) }
         ensures kept { OnErr result (Kept (held_words self.old) (held_words self.new)) }
     {
-        let mut text = Vec::new(heap);
-        text.push(1)?;
-        text.extend_from_slice(program)?;
+        let text = load_command(heap, program)?;
         self.tell(heap, text.as_slice())
     }
 }

@@ -11,7 +11,7 @@ loop-n-init c =
     (refl, subst P (sym c.new-rows.ensures.items) (at_first c.args.memory.now c.args.text.now))
 
 pub read_row-requires : goal.read_row-requires
-read_row-requires c = record { room = omega arith; size = (row_told (turn c.step.new.memory c.step.new.out c.loop-n.invariant.1 c.loop-n.invariant.0 (omega arith) c.in-Shows.ensures)).size }
+read_row-requires c = (row_told (turn c.step.new.memory c.step.new.out c.loop-n.invariant.1 c.loop-n.invariant.0 (omega arith) c.in-Shows.ensures)).size
 
 pub returns-in_err-push-in-Shows : goal.returns-in_err-push-in-Shows
 returns-in_err-push-in-Shows c =
@@ -21,13 +21,11 @@ returns-in_err-push-in-Shows c =
 
 pub returns-in-Done : goal.returns-in-Done
 returns-in-Done c =
-    let e = c.done.ensures in
-    record { ended = rw (e.0, e.1) (ended_done (turn c.step.new.memory c.step.new.out c.loop-n.invariant.1 c.loop-n.invariant.0 (omega arith) c.in-Done.ensures)); kept = tt }
+    record { ended = ended_done (turn c.step.new.memory c.step.new.out c.loop-n.invariant.1 c.loop-n.invariant.0 (omega arith) c.in-Done.ensures); kept = tt }
 
 pub returns-in-No : goal.returns-in-No
 returns-in-No c =
-    let e = c.refused.ensures in
-    record { ended = rw (e.0, e.1) (ended_no (turn c.step.new.memory c.step.new.out c.loop-n.invariant.1 c.loop-n.invariant.0 (omega arith) c.in-No.ensures)); kept = tt }
+    record { ended = ended_no (turn c.step.new.memory c.step.new.out c.loop-n.invariant.1 c.loop-n.invariant.0 (omega arith) c.in-No.ensures); kept = tt }
 
 pub loop-n-smaller : goal.loop-n-smaller
 loop-n-smaller c =

@@ -1,4 +1,4 @@
-use Rattle.std.proofs.Common.{sym, refl, ap, arith}
+use Rattle.std.proofs.Common.{sym, refl, ap, ◌∙◌, arith}
 use Rattle.std.proofs.lemmas.List.{length-map}
 use Rattle.interval.specs.Of.{as_interval}
 use Rattle.model.specs.Memory.{bounds}
@@ -16,8 +16,8 @@ loop-i-preserved c =
     let list = c.args.list.now in
     let i = c.loop-i.i in
     bounds_put c.loop-i.words c.args.words.now (as_intervals list) i _ _ (omega (arith, length-map list as_interval)) (omega (arith, length-map list as_interval))
-    (ap (λ s. s.lo) (sym (nth_within list i c.index-list-i.result c.loop-i-test.true)))
-    (ap (λ s. s.hi) (sym (nth_within list i c.index-list-i-in-loop-i.result c.loop-i-test.true)))
+    (ap (λ s. s.lo) (sym (nth_within list i c.index-list-i.result c.loop-i-test.true)) ∙ ap (λ x. (as_interval x).lo) (sym c.index-list-i.is))
+    (ap (λ s. s.hi) (sym (nth_within list i c.index-list-i.result c.loop-i-test.true)) ∙ ap (λ x. (as_interval x).hi) (sym c.index-list-i.is))
     c.loop-i.invariant
 
 pub returns : goal.returns

@@ -1,17 +1,17 @@
-use Rattle.std.proofs.Common.{sym, ◌∙◌, add-one}
-use Rattle.std.proofs.lemmas.Bool.{eqb-true, eqb-false}
-use Rattle.model.proofs.Owed.{mark_step, mark_found, mark_end}
+-- The table is looked through from the cursor on.
+use Rattle.std.proofs.Common.{arith}
+use Rattle.tables.proofs.Showing.{marks_past, marks_none, marks_some}
 use Rattle.tables.proofs.show.find_mark.Goals as goal
 
-pub loop-i-preserved : goal.loop-i-preserved
-loop-i-preserved c =
-    let clear = eqb-true _ 0 (sym c.if-not-is_clear.ensures) in
-    rw (add-one c.loop-i.i) (sym (mark_step c.args.memory.now c.loop-i.i c.requires c.loop-i-test.true clear) ∙ c.loop-i.invariant)
+pub returns-in_err-marks : goal.returns-in_err-marks
+returns-in_err-marks c = rw c.from_residual.ensures (marks_past c.args.memory.now c.args.cursor (omega arith) c.in_err-marks.ensures.lookup.0)
 
-pub returns-then-not-is_clear : goal.returns-then-not-is_clear
-returns-then-not-is_clear c =
-    let marked = eqb-false _ 0 (sym c.if-not-is_clear.ensures) in
-    (sym c.loop-i.invariant ∙ mark_found c.args.memory.now c.loop-i.i c.requires c.loop-i-test.true marked, c.loop-i-test.true)
+pub returns-in_err-passed : goal.returns-in_err-passed
+returns-in_err-passed c =
+    let h = c.in_ok-marks.ensures.lookup.0 in
+    rw c.from_residual-in_err-passed.ensures (marks_none c.args.memory.now c.args.cursor (omega arith) c.in_ok-marks.marks.now h.0 h.2 c.in_err-passed.ensures)
 
 pub returns : goal.returns
-returns c = sym c.loop-i.invariant ∙ mark_end c.args.memory.now c.loop-i.i c.loop-i-test.false
+returns c =
+    let h = c.in_ok-marks.ensures.lookup.0 in
+    marks_some c.args.memory.now c.args.cursor (omega arith) c.in_ok-marks.marks.now c.in_ok-passed.passed h.0 h.2 h.3 c.in_ok-passed.ensures

@@ -1,3 +1,4 @@
+use Rattle.std.proofs.Common.{ℕ, ◌+◌, ◌*◌, get_or, refl, ap, arith}
 use Rattle.tables.proofs.Showing.{end_refused, end_unreached, end_shown}
 use Rattle.tables.proofs.show.show_end.Goals as goal
 
@@ -9,6 +10,7 @@ returns-then-memory-ne0 c = end_unreached c.args.memory.now c.args.out.now c.arg
 
 pub returns : goal.returns
 returns c =
-    end_shown c.args.memory.now c.pass_all.new.memory c.args.out.now c.write_number.new.out c.write_number-2.new.out c.args.x
-    c.low_end.result c.high_end.result c.if-x-memory.false c.if-memory-ne0.false c.low_end.ensures c.high_end.ensures
-    c.pass_all.ensures c.write_number.ensures c.write_number-2.ensures
+    let m = c.args.memory.now in
+    end_shown m _ c.args.out.now c.write_number.new.out c.write_number-2.new.out c.args.x
+    (get_or m (3 + 2 * c.args.x) 0) (get_or m (3 + 2 * c.args.x + 1) 0) c.if-x-memory.false c.if-memory-ne0.false refl (ap (λ (k : ℕ). get_or m k 0) (omega arith))
+    refl c.write_number.ensures c.write_number-2.ensures

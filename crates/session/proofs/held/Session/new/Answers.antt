@@ -11,7 +11,7 @@ unfolding zeros StartStands
 zeros_stand m e = subst (λ (w : List ℕ). StandsFor w empty_program) (sym e) start_stands
 
 pub invariant_of-result : goal.invariant_of-result
-invariant_of-result c = record { stands = ∣ (empty_program, zeros_stand _ c.in_ok-memory.ensures) ∣₁ }
+invariant_of-result c = record { stands = ∣ (empty_program, zeros_stand _ (c.in_ok-memory.ensures.items_if_clones_equal (λ y e. e))) ∣₁ }
 
 pub returns : goal.returns
-returns c = zeros_stand _ c.in_ok-memory.ensures
+returns c = zeros_stand _ (c.in_ok-memory.ensures.items_if_clones_equal (λ y e. e))

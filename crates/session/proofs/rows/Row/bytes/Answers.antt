@@ -1,6 +1,6 @@
 use Rattle.std.proofs.Common.{ℕ, List, [], ◌∷◌, ◌++◌, sym, ap, ◌∙◌}
 use Rattle.std.proofs.lemmas.Result.{IfOk-weaker}
-use Rattle.session.proofs.Bytes.{eight_is}
+use Rattle.encoding.proofs.Words.{eight_is}
 use Rattle.session.proofs.rows.Row.bytes.Goals as goal
 
 pub returns-in-Alarm : goal.returns-in-Alarm
