@@ -49,7 +49,7 @@ fn assign_at(
 {
     let stmt = word_at(task.text, pos + 1);
     let x = byte_at(task.text, pos + 9) as usize;
-    let found = eval_here(task.text, pos + 10, left, state, task.lengths);
+    let found = eval_here(&task.code(), pos + 10, left, state);
     mark_faults(alarms, stmt, found.result.faults);
     match found.result.interval {
         Some(s) => state.put(x, s),
@@ -66,8 +66,9 @@ fn store_at(task: &Task, pos: usize, left: usize, state: &mut Abstract, alarms: 
 {
     let stmt = word_at(task.text, pos + 1);
     let r = byte_at(task.text, pos + 9) as usize;
-    let index = eval_here(task.text, pos + 10, left, state, task.lengths);
-    let value = eval_here(task.text, index.end, left, state, task.lengths);
+    let code = task.code();
+    let index = eval_here(&code, pos + 10, left, state);
+    let value = eval_here(&code, index.end, left, state);
     let stored = store_result(length_at(task.lengths, r), index.result, value.result);
     mark_faults(alarms, stmt, stored.faults);
     match stored.interval {
@@ -109,7 +110,7 @@ fn check_at(task: &Task, pos: usize, left: usize, state: &mut Abstract, alarms: 
         Walked (pos + length (encode_stmt d)) task.now.lengths.now ms n (as_abstract state.old) alarms.old (as_abstract state.new) alarms.new d result }
 {
     let stmt = word_at(task.text, pos + 1);
-    let ways = test_at(task.text, pos + 9, left, state, task.lengths);
+    let ways = test_at(&task.code(), pos + 9, left, state);
     mark_faults(alarms, stmt, check_faults(&ways));
     *state = ways.yes;
     ways.end
