@@ -23,9 +23,9 @@ pub expr_within : (text : List ℕ) (pos left : ℕ) (e : Expr) → ExprReady te
 expr_within text pos left e ready = some_within text pos (encode_expr e) (omega (arith, expr_long e)) ready.stands
 
 -- where none is ready: there is no room for it, or its first byte is no expression's
-pub no_expr : {Q : Type 0} (text : List ℕ) (pos left : ℕ) (e : Expr) → ExprReady text pos left e → (left ≡ 0) ⊎ (Q × (length text ≤ pos)) → ⊥
+pub no_expr : (text : List ℕ) (pos left : ℕ) (e : Expr) → ExprReady text pos left e → (left ≡ 0) ⊎ (length text ≤ pos) → ⊥
 no_expr text pos left e ready (inl h) = omega (arith, expr_long e, ready.enough)
-no_expr text pos left e ready (inr h) = omega (arith, expr_long e, expr_within text pos left e ready, h.1)
+no_expr text pos left e ready (inr h) = omega (arith, expr_long e, expr_within text pos left e ready, h)
 
 tag_small : (e : Expr) → expr_tag e < 4
 tag_small (num n) = omega arith
@@ -92,9 +92,9 @@ pub test_within : (text : List ℕ) (pos left : ℕ) (t : Test) → TestReady te
 test_within text pos left t ready = some_within text pos (encode_test t) (omega (arith, test_long t)) ready.stands
 
 -- where none is ready
-pub no_test : {Q : Type 0} (text : List ℕ) (pos left : ℕ) (t : Test) → TestReady text pos left t → (left ≡ 0) ⊎ (Q × (length text ≤ pos)) → ⊥
+pub no_test : (text : List ℕ) (pos left : ℕ) (t : Test) → TestReady text pos left t → (left ≡ 0) ⊎ (length text ≤ pos) → ⊥
 no_test text pos left t ready (inl h) = omega (arith, test_long t, ready.enough)
-no_test text pos left t ready (inr h) = omega (arith, test_long t, test_within text pos left t ready, h.1)
+no_test text pos left t ready (inr h) = omega (arith, test_long t, test_within text pos left t ready, h)
 
 test_tag_small : (t : Test) → test_tag t < 5
 test_tag_small (less a b) = omega arith

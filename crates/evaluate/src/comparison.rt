@@ -10,7 +10,7 @@ ghost use Rattle.evaluate.specs.Ready.{ExprReady};
 ghost use Rattle.evaluate.specs.Found.{Splits};
 
 use crate::expression::eval_here;
-use crate::types::{Comparison, Side, Ways};
+use crate::types::{Code, Comparison, Side, Ways};
 use bytes_at::byte_at;
 use interval::Faults;
 use state::Abstract;
@@ -101,19 +101,12 @@ fn stop(ways: &mut Ways, faults: Faults)
 }
 
 // A comparison of the two expressions from `pos` on, each of at most `left` bytes, in the state `ways.yes`; `ways` is what it tells then.
-pub fn compare_at(
-    how: Comparison,
-    text: &[u8],
-    pos: usize,
-    left: usize,
-    lengths: &[u64],
-    ways: &mut Ways,
-)
-    ensures { (a b : Expr) → ExprReady text.now pos left a → ExprReady text.now (pos + length (encode_expr a)) left b →
-        Splits (pos + length (encode_expr a) + length (encode_expr b)) lengths.now (as_abstract ways.old.yes) (comparison how a b) ways.new }
+pub fn compare_at(how: Comparison, code: &Code, pos: usize, left: usize, ways: &mut Ways)
+    ensures { (a b : Expr) → ExprReady code.now.text.now pos left a → ExprReady code.now.text.now (pos + length (encode_expr a)) left b →
+        Splits (pos + length (encode_expr a) + length (encode_expr b)) code.now.lengths.now (as_abstract ways.old.yes) (comparison how a b) ways.new }
 {
-    let a = eval_here(text, pos, left, &ways.yes, lengths);
-    let b = eval_here(text, a.end, left, &ways.yes, lengths);
+    let a = eval_here(code, pos, left, &ways.yes);
+    let b = eval_here(code, a.end, left, &ways.yes);
     ways.end = b.end;
     let Some(s) = a.result.interval else {
         return stop(ways, a.result.faults);
@@ -125,11 +118,11 @@ pub fn compare_at(
     ways.no = ways.yes;
     ways.faults = faults;
     let first = Side {
-        variable: variable_at(text, pos),
+        variable: variable_at(code.text, pos),
         interval: s,
     };
     let second = Side {
-        variable: variable_at(text, a.end),
+        variable: variable_at(code.text, a.end),
         interval: t,
     };
     compare(ways, how, first, second);

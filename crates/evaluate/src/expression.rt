@@ -8,7 +8,7 @@ ghost use Rattle.state.specs.Of.{as_abstract};
 ghost use Rattle.evaluate.specs.Ready.{ExprReady};
 ghost use Rattle.evaluate.specs.Found.{env_in, eval_here, Evaluates};
 
-use crate::types::Evaluated;
+use crate::types::{Code, Evaluated};
 use bytes_at::{byte_at, word_at};
 use interval::{EvalResult, Faults, Interval};
 use program::Operator;
@@ -32,33 +32,33 @@ pub fn length_at(lengths: &[u64], r: usize) -> u64
 }
 
 // The expression at `pos`, of at most `left` bytes; where nothing comes all variables and elements count as 0.
-fn eval_from(text: &[u8], pos: usize, left: usize, state: &Abstract, lengths: &[u64]) -> Evaluated
-    ensures { (e : Expr) → ExprReady text.now pos left e →
-        Evaluates (pos + length (encode_expr e)) (eval_interval lengths.now (env_in (as_abstract state.now)) e) result }
+fn eval_from(code: &Code, pos: usize, left: usize, state: &Abstract) -> Evaluated
+    ensures { (e : Expr) → ExprReady code.now.text.now pos left e →
+        Evaluates (pos + length (encode_expr e)) (eval_interval code.now.lengths.now (env_in (as_abstract state.now)) e) result }
 {
-    if left == 0 || pos >= text.len() {
+    if left == 0 || pos >= code.text.len() {
         return nothing_at(pos);
     }
     let next = pos.saturating_add(2);
     // By the numbers of the encoding: an enum of them would be matched once more.
-    match text[pos] {
+    match code.text[pos] {
         0 => Evaluated {
-            result: Interval::number(word_at(text, pos + 1)),
+            result: Interval::number(word_at(code.text, pos + 1)),
             end: pos.saturating_add(9),
         },
         1 => Evaluated {
             result: EvalResult::value(
-                state.variable(byte_at(text, pos + 1) as usize),
+                state.variable(byte_at(code.text, pos + 1) as usize),
                 Faults::none(),
             ),
             end: next,
         },
         2 => {
-            let a = eval_from(text, next, left - 1, state, lengths);
-            let b = eval_from(text, a.end, left - 1, state, lengths);
+            let a = eval_from(code, next, left - 1, state);
+            let b = eval_from(code, a.end, left - 1, state);
             Evaluated {
                 result: EvalResult::combine(
-                    Operator::from(byte_at(text, pos + 1) as u64),
+                    Operator::from(byte_at(code.text, pos + 1) as u64),
                     a.result,
                     b.result,
                 ),
@@ -66,10 +66,10 @@ fn eval_from(text: &[u8], pos: usize, left: usize, state: &Abstract, lengths: &[
             }
         }
         3 => {
-            let a = eval_from(text, next, left - 1, state, lengths);
-            let r = byte_at(text, pos + 1) as usize;
+            let a = eval_from(code, next, left - 1, state);
+            let r = byte_at(code.text, pos + 1) as usize;
             Evaluated {
-                result: a.result.element(length_at(lengths, r), state.array(r)),
+                result: a.result.element(length_at(code.lengths, r), state.array(r)),
                 end: a.end,
             }
         }
@@ -78,17 +78,11 @@ fn eval_from(text: &[u8], pos: usize, left: usize, state: &Abstract, lengths: &[
 }
 
 // The expression at `pos`, of at most `left` bytes; where nothing comes it has no value and no faults.
-pub fn eval_here(
-    text: &[u8],
-    pos: usize,
-    left: usize,
-    state: &Abstract,
-    lengths: &[u64],
-) -> Evaluated
-    ensures { (e : Expr) → ExprReady text.now pos left e →
-        Evaluates (pos + length (encode_expr e)) (eval_here lengths.now (as_abstract state.now) e) result }
+pub fn eval_here(code: &Code, pos: usize, left: usize, state: &Abstract) -> Evaluated
+    ensures { (e : Expr) → ExprReady code.now.text.now pos left e →
+        Evaluates (pos + length (encode_expr e)) (eval_here code.now.lengths.now (as_abstract state.now) e) result }
 {
-    let found = eval_from(text, pos, left, state, lengths);
+    let found = eval_from(code, pos, left, state);
     match state {
         Abstract::Unreached => nothing_at(found.end),
         Abstract::Reached(_) => found,

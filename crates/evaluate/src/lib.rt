@@ -10,4 +10,4 @@ mod types;
 pub use bytes_at::{byte_at, word_at};
 pub use expression::{eval_here, length_at};
 pub use test::test_at;
-pub use types::{Evaluated, Ways};
+pub use types::{Code, Evaluated, Ways};

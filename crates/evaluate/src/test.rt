@@ -7,42 +7,42 @@ ghost use Rattle.evaluate.specs.Ready.{TestReady};
 ghost use Rattle.evaluate.specs.Found.{Splits};
 
 use crate::comparison::compare_at;
-use crate::types::{Comparison, Ways};
+use crate::types::{Code, Comparison, Ways};
 use interval::Faults;
 use state::Abstract;
 use std::mem::swap;
 
 // The test at `pos`, of at most `left` bytes, in the state `ways.yes`; `ways` is what it tells then.
 // In place, so that a level of nesting copies a state once or twice, and none is passed by value.
-fn test_from(text: &[u8], pos: usize, left: usize, lengths: &[u64], ways: &mut Ways)
-    ensures { (t : Test) → TestReady text.now pos left t →
-        Splits (pos + length (encode_test t)) lengths.now (as_abstract ways.old.yes) t ways.new }
+fn test_from(code: &Code, pos: usize, left: usize, ways: &mut Ways)
+    ensures { (t : Test) → TestReady code.now.text.now pos left t →
+        Splits (pos + length (encode_test t)) code.now.lengths.now (as_abstract ways.old.yes) t ways.new }
 {
-    if left == 0 || pos >= text.len() {
+    if left == 0 || pos >= code.text.len() {
         return;
     }
     // By the numbers of the encoding: an enum of them would be matched once more.
-    match text[pos] {
-        0 => compare_at(Comparison::Less, text, pos + 1, left - 1, lengths, ways),
-        1 => compare_at(Comparison::Equal, text, pos + 1, left - 1, lengths, ways),
+    match code.text[pos] {
+        0 => compare_at(Comparison::Less, code, pos + 1, left - 1, ways),
+        1 => compare_at(Comparison::Equal, code, pos + 1, left - 1, ways),
         2 => {
-            test_from(text, pos + 1, left - 1, lengths, ways);
+            test_from(code, pos + 1, left - 1, ways);
             swap(&mut ways.yes, &mut ways.no);
         }
         3 => {
-            test_from(text, pos + 1, left - 1, lengths, ways);
+            test_from(code, pos + 1, left - 1, ways);
             let first = ways.faults;
             let no = ways.no;
-            test_from(text, ways.end, left - 1, lengths, ways);
+            test_from(code, ways.end, left - 1, ways);
             ways.faults = first.or(ways.faults);
             ways.no.join(&no);
         }
         4 => {
-            test_from(text, pos + 1, left - 1, lengths, ways);
+            test_from(code, pos + 1, left - 1, ways);
             let first = ways.faults;
             let yes = ways.yes;
             ways.yes = ways.no;
-            test_from(text, ways.end, left - 1, lengths, ways);
+            test_from(code, ways.end, left - 1, ways);
             ways.faults = first.or(ways.faults);
             ways.yes.join(&yes);
         }
@@ -51,9 +51,9 @@ fn test_from(text: &[u8], pos: usize, left: usize, lengths: &[u64], ways: &mut W
 }
 
 // The test at `pos`, of at most `left` bytes: what is known of the state if it holds, and if it does not, and what may go wrong in it.
-pub fn test_at(text: &[u8], pos: usize, left: usize, state: &Abstract, lengths: &[u64]) -> Ways
-    ensures { (t : Test) → TestReady text.now pos left t →
-        Splits (pos + length (encode_test t)) lengths.now (as_abstract state.now) t result }
+pub fn test_at(code: &Code, pos: usize, left: usize, state: &Abstract) -> Ways
+    ensures { (t : Test) → TestReady code.now.text.now pos left t →
+        Splits (pos + length (encode_test t)) code.now.lengths.now (as_abstract state.now) t result }
 {
     let mut ways = Ways {
         yes: *state,
@@ -61,6 +61,6 @@ pub fn test_at(text: &[u8], pos: usize, left: usize, state: &Abstract, lengths: 
         faults: Faults::none(),
         end: pos,
     };
-    test_from(text, pos, left, lengths, &mut ways);
+    test_from(code, pos, left, &mut ways);
     ways
 }

@@ -2,6 +2,15 @@
 use interval::{EvalResult, Faults, Interval};
 use state::Abstract;
 
+// What a program's expressions are worked out over.
+#[derive(Clone, Copy)]
+pub struct Code<'a> {
+    // The command's bytes.
+    pub text: &'a [u8],
+    // How many elements each array has.
+    pub lengths: &'a [u64],
+}
+
 // What an expression comes to, and where it ends.
 #[derive(Clone, Copy, PartialEq, Eq, Debug)]
 pub struct Evaluated {

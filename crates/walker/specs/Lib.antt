@@ -3,3 +3,4 @@ pub mod Ready
 pub mod Walk
 pub mod Store
 pub mod Pass
+pub mod Simple

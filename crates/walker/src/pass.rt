@@ -20,7 +20,7 @@ use state::Abstract;
 fn round_at(task: &Task, pos: usize, left: usize, first: &Abstract, start: &Abstract) -> Round
     ensures { AtLoop task.now pos left (λ t a stop. GoesRound task.now stop t a first.now start.now result) }
 {
-    let ways = test_at(task.text, pos, left, start, task.lengths);
+    let ways = test_at(&task.code(), pos, left, start);
     let mut state = ways.yes;
     let end = walk_at(task, ways.end, left, &mut state, &mut []);
     state.join(first);
@@ -59,7 +59,7 @@ fn loop_at(
     ensures { AtLoop task.now pos left (λ t a stop. Walks task.now stop (loop stmt t a) state.old alarms.old state.new alarms.new result) }
 {
     let settled = settle_at(task, pos, left, state);
-    let ways = test_at(task.text, pos, left, &settled.state, task.lengths);
+    let ways = test_at(&task.code(), pos, left, &settled.state);
     if alarms.is_empty() && task.rounds > 0 {
         *state = ways.no;
         return settled.end;
@@ -83,7 +83,7 @@ fn branch_at(
 ) -> usize
     ensures { AtBranch task.now pos left (λ t a b stop. Walks task.now stop (branch stmt t a b) state.old alarms.old state.new alarms.new result) }
 {
-    let ways = test_at(task.text, pos, left, state, task.lengths);
+    let ways = test_at(&task.code(), pos, left, state);
     mark_faults(alarms, stmt, ways.faults);
     let mut first = ways.yes;
     let mid = walk_at(task, ways.end, left, &mut first, alarms);

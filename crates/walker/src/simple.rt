@@ -7,8 +7,8 @@ ghost use Rattle.interval.specs.Arithmetic.{EvalResult as PlainResult};
 ghost use Rattle.interval.specs.Of.{Faulty, Says};
 ghost use Rattle.analysis.specs.AbstractState.{Abstract as PlainAbstract};
 ghost use Rattle.state.specs.Of.{as_abstract};
-ghost use Rattle.walker.specs.Ready.{StmtReady, HasNoParts};
-ghost use Rattle.walker.specs.Walk.{Walked};
+ghost use Rattle.walker.specs.Ready.{HasNoParts};
+ghost use Rattle.walker.specs.Simple.{Passes};
 ghost use Rattle.walker.specs.Store.{store_result};
 ghost use Rattle.analysis.specs.Clauses.{check_faults_here};
 ghost use Rattle.evaluate.specs.Found.{Splits};
@@ -44,12 +44,11 @@ fn assign_at(
     alarms: &mut [u64],
 ) -> usize
     requires { pos < length task.now.text.now }
-    ensures { (n : ℕ) (ms : List ℕ) (d : Stmt) → StmtReady task.now.text.now pos left d → AssignAt task.now.text.now pos d →
-        Walked (pos + length (encode_stmt d)) task.now.lengths.now ms n (as_abstract state.old) alarms.old (as_abstract state.new) alarms.new d result }
+    ensures { Passes task.now pos left AssignAt state.old alarms.old state.new alarms.new result }
 {
     let stmt = word_at(task.text, pos + 1);
     let x = byte_at(task.text, pos + 9) as usize;
-    let found = eval_here(task.text, pos + 10, left, state, task.lengths);
+    let found = eval_here(&task.code(), pos + 10, left, state);
     mark_faults(alarms, stmt, found.result.faults);
     match found.result.interval {
         Some(s) => state.put(x, s),
@@ -61,13 +60,13 @@ fn assign_at(
 // What an expression comes to is joined into an array.
 fn store_at(task: &Task, pos: usize, left: usize, state: &mut Abstract, alarms: &mut [u64]) -> usize
     requires { pos < length task.now.text.now }
-    ensures { (n : ℕ) (ms : List ℕ) (d : Stmt) → StmtReady task.now.text.now pos left d → StoreAt task.now.text.now pos d →
-        Walked (pos + length (encode_stmt d)) task.now.lengths.now ms n (as_abstract state.old) alarms.old (as_abstract state.new) alarms.new d result }
+    ensures { Passes task.now pos left StoreAt state.old alarms.old state.new alarms.new result }
 {
     let stmt = word_at(task.text, pos + 1);
     let r = byte_at(task.text, pos + 9) as usize;
-    let index = eval_here(task.text, pos + 10, left, state, task.lengths);
-    let value = eval_here(task.text, index.end, left, state, task.lengths);
+    let code = task.code();
+    let index = eval_here(&code, pos + 10, left, state);
+    let value = eval_here(&code, index.end, left, state);
     let stored = store_result(length_at(task.lengths, r), index.result, value.result);
     mark_faults(alarms, stmt, stored.faults);
     match stored.interval {
@@ -80,8 +79,7 @@ fn store_at(task: &Task, pos: usize, left: usize, state: &mut Abstract, alarms: 
 // A variable gets what is read.
 fn input_at(task: &Task, pos: usize, left: usize, state: &mut Abstract) -> usize
     requires { pos < length task.now.text.now }
-    ensures { (ns : List ℕ) (n : ℕ) (ms t : List ℕ) (d : Stmt) → StmtReady task.now.text.now pos left d → InputAt task.now.text.now pos d →
-        Walked (pos + length (encode_stmt d)) ns ms n (as_abstract state.old) t (as_abstract state.new) t d result }
+    ensures { (t : List ℕ) → Passes task.now pos left InputAt state.old t state.new t result }
 {
     let x = byte_at(task.text, pos + 9) as usize;
     let lo = word_at(task.text, pos + 10);
@@ -105,11 +103,10 @@ fn check_faults(ways: &Ways) -> Faults
 // What is known where a test holds.
 fn check_at(task: &Task, pos: usize, left: usize, state: &mut Abstract, alarms: &mut [u64]) -> usize
     requires { pos < length task.now.text.now }
-    ensures { (n : ℕ) (ms : List ℕ) (d : Stmt) → StmtReady task.now.text.now pos left d → CheckAt task.now.text.now pos d →
-        Walked (pos + length (encode_stmt d)) task.now.lengths.now ms n (as_abstract state.old) alarms.old (as_abstract state.new) alarms.new d result }
+    ensures { Passes task.now pos left CheckAt state.old alarms.old state.new alarms.new result }
 {
     let stmt = word_at(task.text, pos + 1);
-    let ways = test_at(task.text, pos + 9, left, state, task.lengths);
+    let ways = test_at(&task.code(), pos + 9, left, state);
     mark_faults(alarms, stmt, check_faults(&ways));
     *state = ways.yes;
     ways.end
@@ -124,8 +121,7 @@ pub fn simple_at(
     alarms: &mut [u64],
 ) -> usize
     requires { pos < length task.now.text.now }
-    ensures { (n : ℕ) (ms : List ℕ) (d : Stmt) → StmtReady task.now.text.now pos left d → HasNoParts (slice_index task.now.text.now pos) →
-        Walked (pos + length (encode_stmt d)) task.now.lengths.now ms n (as_abstract state.old) alarms.old (as_abstract state.new) alarms.new d result }
+    ensures { Passes task.now pos left (λ text at d. HasNoParts (slice_index text at)) state.old alarms.old state.new alarms.new result }
 {
     // By the numbers of the encoding: an enum of them would be matched once more.
     match task.text[pos] {

@@ -1,4 +1,7 @@
 // What a pass is given, and what a loop comes to.
+ghost use Rattle.std.specs.Prelude.{◌≡◌};
+
+use evaluate::Code;
 use state::Abstract;
 
 // What stays the same throughout a pass.
@@ -12,6 +15,19 @@ pub struct Task<'a> {
     pub thresholds: &'a [u64],
     // The most rounds of a loop.
     pub rounds: usize,
+}
+
+impl<'a> Task<'a> {
+    // What its expressions are worked out over.
+    pub fn code(&self) -> Code<'a>
+        ensures text { result.text ≡ self.now.text }
+        ensures lengths { result.lengths ≡ self.now.lengths }
+    {
+        Code {
+            text: self.text,
+            lengths: self.lengths,
+        }
+    }
 }
 
 // What a loop's rounds come to, and where its body ends.

@@ -57,13 +57,7 @@ fn loop_at(
 {
     let settled = settle_at(&watch.task, pos, left, state);
     watch.note(stmt, &settled.state, seen);
-    let ways = test_at(
-        watch.task.text,
-        pos,
-        left,
-        &settled.state,
-        watch.task.lengths,
-    );
+    let ways = test_at(&watch.task.code(), pos, left, &settled.state);
     let mut inside = ways.yes;
     let end = pass_at(watch, ways.end, left, &mut inside, seen);
     *state = ways.no;
@@ -83,7 +77,7 @@ fn branch_at(
     ensures { AtBranch watch.now.task pos left (λ t a b stop. Watches watch.now stop (branch stmt t a b) state.old seen.old state.new seen.new result) }
 {
     watch.note(stmt, state, seen);
-    let ways = test_at(watch.task.text, pos, left, state, watch.task.lengths);
+    let ways = test_at(&watch.task.code(), pos, left, state);
     let mut first = ways.yes;
     let mid = pass_at(watch, ways.end, left, &mut first, seen);
     *state = ways.no;

@@ -1,13 +1,18 @@
 -- Each kind of expression by its first byte: its parts are ready where they stand, and what is found of them makes up the whole.
-use Rattle.std.proofs.Common.{◌≡◌, ◌+◌, length, arith}
+use Rattle.std.proofs.Common.{inl, inr, ◌≡◌, ◌+◌, length, arith}
 use Rattle.program.specs.Encoding.{encode_expr}
 use Rattle.encoding.proofs.Parts.{number_at, variable_at, binary_at, element_at}
 use Rattle.evaluate.proofs.ReadyParts.{expr_within, no_expr, first_small, left_ready, right_ready, index_ready}
 use Rattle.evaluate.proofs.Expressions.{number_says, variable_says, binary_says, element_says}
 use Rattle.evaluate.proofs.expression.+eval_from.Goals as goal
+use Rattle.evaluate.proofs.expression.+eval_from.Goals.{then-left-eq0-via-then-left-eq0, then-left-eq0-via-else-left-eq0+then-pos-code}
 
 pub returns-then-left-eq0 : goal.returns-then-left-eq0
-returns-then-left-eq0 t c e ready = absurd (no_expr _ _ _ e ready c.then-left-eq0.either)
+returns-then-left-eq0 t c e ready =
+    absurd (elim c.then-left-eq0.branch [
+      | then-left-eq0-via-then-left-eq0 w ↦ no_expr _ _ _ e ready (inl w.if-left-eq0.true)
+      | then-left-eq0-via-else-left-eq0+then-pos-code w ↦ no_expr _ _ _ e ready (inr w.if-pos-code.true)
+    ])
 
 pub returns-in-0 : goal.returns-in-0
 returns-in-0 t c e ready =

@@ -1,12 +1,17 @@
 -- Each kind of test by its first byte: its parts are ready where they stand, and what they tell makes up the whole.
-use Rattle.std.proofs.Common.{sym, arith}
+use Rattle.std.proofs.Common.{inl, inr, sym, arith}
 use Rattle.encoding.proofs.Parts.{less_at, equal_at, not_at, and_at, or_at}
 use Rattle.evaluate.proofs.ReadyParts.{no_test, test_first_small, less_ready, equal_ready, inner_ready, and_ready, or_ready}
 use Rattle.evaluate.proofs.Tests.{split_same, split_not, split_and, split_or}
 use Rattle.evaluate.proofs.test.+test_from.Goals as goal
+use Rattle.evaluate.proofs.test.+test_from.Goals.{then-left-eq0-via-then-left-eq0, then-left-eq0-via-else-left-eq0+then-pos-code}
 
 pub returns-then-left-eq0 : goal.returns-then-left-eq0
-returns-then-left-eq0 m c t ready = absurd (no_test _ _ _ t ready c.then-left-eq0.either)
+returns-then-left-eq0 m c t ready =
+    absurd (elim c.then-left-eq0.branch [
+      | then-left-eq0-via-then-left-eq0 w ↦ no_test _ _ _ t ready (inl w.if-left-eq0.true)
+      | then-left-eq0-via-else-left-eq0+then-pos-code w ↦ no_test _ _ _ t ready (inr w.if-pos-code.true)
+    ])
 
 pub returns-in-0 : goal.returns-in-0
 returns-in-0 m c t ready =

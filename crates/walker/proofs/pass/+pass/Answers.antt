@@ -15,7 +15,7 @@ use Rattle.walker.proofs.pass.+pass.Goals.{walk_at-then-left-eq0-via-then-left-e
 
 pub branch_at-returns : goal.branch_at-returns
 branch_at-returns t c x a b rising test first second =
-    let ways = c.test_at-ways.ensures x test in
+    let ways = (rw (c.code.ensures.text, c.code.ensures.lengths) at c.test_at-ways.ensures) x test in
     let mid = c.walk_at-mid.ensures a rising (ready_at _ _ _ _ a (sym ways.end) first) in
     let end = c.walk_at-end.ensures b rising (ready_at _ _ _ _ b (omega (arith, mid.end, ways.end)) second) in
     walked_branch _ _ _ _ _ _ x a b _ _ _ _ _ _ _ _ _ _ (c.mark_faults.ensures _ ways.faults)
@@ -23,7 +23,7 @@ branch_at-returns t c x a b rising test first second =
 
 pub round_at-returns : goal.round_at-returns
 round_at-returns t c x a rising test body =
-    let ways = c.test_at-ways.ensures x test in
+    let ways = (rw (c.code.ensures.text, c.code.ensures.lengths) at c.test_at-ways.ensures) x test in
     let end = c.walk_at-end.ensures a rising (ready_at _ _ _ _ a (sym ways.end) body) in
     let w = walked_at _ _ _ _ _ _ _ _ _ _ a _ refl ways.yes end in
     record { is = c.join.ensures ∙ join_swap _ _ ∙ ap (λ (h : Abstract). join (as_abstract c.args.first.now) h) w.out; end = omega (arith, end.end, ways.end) }
@@ -48,14 +48,14 @@ settle_at-returns t c x a rising test body =
 pub loop_at-returns-then-task-gt0 : goal.loop_at-returns-then-task-gt0
 loop_at-returns-then-task-gt0 t c x a rising test body =
     let settled = c.settle_at-settled.ensures x a rising test body in
-    let ways = c.test_at-ways.ensures x test in
+    let ways = (rw (c.code.ensures.text, c.code.ensures.lengths) at c.test_at-ways.ensures) x test in
     let none : length c.args.alarms.now ≡ 0 = search (rules, tests) in
     walked_quiet _ _ _ _ _ x a _ _ _ _ _ settled.settles none ways.no (settled.end c.if-task-gt0.true)
 
 pub loop_at-returns : goal.loop_at-returns
 loop_at-returns t c x a rising test body =
     let settled = c.settle_at-settled.ensures x a rising test body in
-    let ways = c.test_at-ways.ensures x test in
+    let ways = (rw (c.code.ensures.text, c.code.ensures.lengths) at c.test_at-ways.ensures) x test in
     let end = c.walk_at-end.ensures a rising (ready_at _ _ _ _ a (sym ways.end) body) in
     walked_loop _ _ _ _ _ x a _ _ _ _ _ _ _ _ settled.settles (c.mark_faults.ensures _ ways.faults) (walked_at _ _ _ _ _ _ _ _ _ _ a _ (omega (arith, ways.end)) ways.yes end) ways.no
 

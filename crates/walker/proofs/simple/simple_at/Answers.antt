@@ -8,7 +8,7 @@ pub returns-in-2 : goal.returns-in-2
 returns-in-2 c n ms d h k = c.store_at.ensures n ms d h (store_at _ _ d h.stands c.in-2.is)
 
 pub returns-in-3 : goal.returns-in-3
-returns-in-3 c n ms d h k = c.input_at.ensures _ n ms _ d h (input_at _ _ d h.stands c.in-3.is)
+returns-in-3 c n ms d h k = c.input_at.ensures _ n ms d h (input_at _ _ d h.stands c.in-3.is)
 
 pub returns-in-4 : goal.returns-in-4
 returns-in-4 c n ms d h k = c.check_at.ensures n ms d h (check_at _ _ d h.stands c.in-4.is)

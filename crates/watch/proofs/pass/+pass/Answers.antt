@@ -12,7 +12,7 @@ use Rattle.watch.proofs.pass.+pass.Goals.{pass_at-then-left-eq0-via-then-left-eq
 
 pub branch_at-returns : goal.branch_at-returns
 branch_at-returns t c x a b rising test first second =
-    let ways = c.test_at-ways.ensures x test in
+    let ways = (rw (c.code.ensures.text, c.code.ensures.lengths) at c.test_at-ways.ensures) x test in
     let mid = c.pass_at-mid.ensures a rising (ready_at _ _ _ _ a (sym ways.end) first) in
     let end = c.pass_at-end.ensures b rising (ready_at _ _ _ _ b (omega (arith, mid.end, ways.end)) second) in
     watched_branch _ _ _ _ _ _ _ x a b _ _ _ _ _ _ _ _ _ _ c.note.ensures
@@ -21,7 +21,7 @@ branch_at-returns t c x a b rising test first second =
 pub loop_at-returns : goal.loop_at-returns
 loop_at-returns t c x a rising test body =
     let settled = c.settle_at-settled.ensures x a rising test body in
-    let ways = c.test_at-ways.ensures x test in
+    let ways = (rw (c.code.ensures.text, c.code.ensures.lengths) at c.test_at-ways.ensures) x test in
     let end = c.pass_at-end.ensures a rising (ready_at _ _ _ _ a (sym ways.end) body) in
     watched_loop _ _ _ _ _ _ x a _ _ _ _ _ _ _ _ settled.settles c.note.ensures (watched_at _ _ _ _ _ _ _ _ _ _ _ a _ (omega (arith, ways.end)) ways.yes end) ways.no
 
