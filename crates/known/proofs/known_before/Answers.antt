@@ -1,5 +1,5 @@
 use Rattle.program.specs.Command.{load}
-use Rattle.machine.proofs.Analysing.{loads_bounded}
+use Rattle.task.proofs.Loaded.{loads_bounded}
 use Rattle.known.proofs.Finding.{alarms_load_none, end_loads_none}
 use Rattle.known.proofs.known_before.Goals as goal
 

@@ -1,4 +1,4 @@
-use Rattle.machine.proofs.Analysing.{loads_bounded}
+use Rattle.task.proofs.Loaded.{loads_bounded}
 use Rattle.machine.proofs.Stepping.{obeyed_load, obeyed_alarms, obeyed_end, obeyed_nothing, variable_small}
 use Rattle.machine.proofs.obey.Goals as goal
 
