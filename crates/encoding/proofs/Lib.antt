@@ -6,3 +6,4 @@ pub mod Standing
 pub mod Parts
 pub mod Prefix
 pub mod ProgramParts
+pub mod Words

@@ -2,7 +2,7 @@
 
 #![tactic(auto)]
 
-ghost use Rattle.std.specs.Prelude.{◌≡◌, ◌≤◌};
+ghost use Rattle.std.specs.Prelude.{◌≡◌};
 ghost use Rattle.reader.specs.Request.{Loads};
 ghost use Rattle.state.specs.Of.{as_abstract};
 ghost use Rattle.known.specs.Known.{known_before, Known};
@@ -15,7 +15,6 @@ use watch::watch_at;
 
 // What a pass through the program that the header was read from, from all 0, knows where statement `stmt` begins.
 fn known_in(text: &[u8], header: &Header, stmt: u64) -> Abstract
-    requires { (header.now.vars ≤ 64) × (header.now.arrays ≤ 16) }
     ensures { (l : Loads text.now header.now) → as_abstract result ≡ known_before l.program stmt }
 {
     let mut table = [0; THRESHOLDS];
@@ -37,10 +36,8 @@ fn known_in(text: &[u8], header: &Header, stmt: u64) -> Abstract
 pub fn known_before(text: &[u8], stmt: u64) -> Option<Abstract>
     ensures { Known text.now stmt result }
 {
-    match read_command(text) {
-        Request::Load(header) => Some(known_in(text, &header, stmt)),
-        Request::Alarms => None,
-        Request::AtEnd(_) => None,
-        Request::Refused => None,
-    }
+    let Request::Load(header) = read_command(text)? else {
+        return None;
+    };
+    Some(known_in(text, &header, stmt))
 }

@@ -43,14 +43,16 @@ fn obey(memory: &mut [u64], text: &[u8], out: &mut [u8]) -> Told
     requires { (length memory.old ≡ 22083) × (16 ≤ length out.old) }
     ensures { StepTold (own.step memory.old (command text.now)) out.old result memory.new out.new }
 {
-    match read_command(text) {
+    let Some(request) = read_command(text) else {
+        return Told::No(1);
+    };
+    match request {
         Request::Load(header) => {
             load(memory, text, &header);
             Told::Done
         }
         Request::Alarms => show_from(memory, 0, out),
         Request::AtEnd(x) => show_end(memory, x as usize, out),
-        Request::Refused => Told::No(1),
     }
 }
 

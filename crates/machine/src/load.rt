@@ -1,5 +1,5 @@
 // A program is loaded: it is analysed at once, and the memory holds what was found.
-ghost use Rattle.std.specs.Prelude.{◌≡◌, ◌≤◌, length};
+ghost use Rattle.std.specs.Prelude.{◌≡◌, length};
 ghost use Rattle.std.specs.List.Sorted.{IsNonDecreasing};
 ghost use Rattle.program.specs.Syntax.{Stmt};
 ghost use Rattle.model.specs.Memory.{laid};
@@ -26,7 +26,7 @@ fn analyse_body(task: &Task, body: usize, table: &mut [u64]) -> Abstract
 
 // The program that the header was read from is analysed, and the memory is that of the program, whatever it was.
 pub fn load(memory: &mut [u64], text: &[u8], header: &Header)
-    requires { (length memory.old ≡ 22083) × ((header.now.vars ≤ 64) × (header.now.arrays ≤ 16)) }
+    requires { length memory.old ≡ 22083 }
     ensures { (l : Loads text.now header.now) → memory.new ≡ laid 0 l.program }
 {
     let task = task_of(text, header, &mut memory[SCRATCH..WORDS]);

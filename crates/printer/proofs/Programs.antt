@@ -1,5 +1,5 @@
 -- What is printed of a command that loads a program is the program's text. Rests on encoding's Valid and on encodings being different.
-use Rattle.std.proofs.Common.{◌≡◌, ℕ, true, List, [], ◌∷◌, ◌++◌, length, take, drop, codes, sym, refl, ap, ◌∙◌, arith}
+use Rattle.std.proofs.Common.{◌≡◌, ℕ, true, List, [], ◌∷◌, ◌++◌, length, take, drop, codes, Some, None, sym, refl, ap, ◌∙◌, arith}
 use lib.Seq.{take-append_seam}
 use Rattle.program.specs.Syntax.{Program}
 use Rattle.program.specs.Encoding.{encode_program}
@@ -11,7 +11,7 @@ use Rattle.encoding.specs.Statements.{EncodedOnce}
 use Rattle.reader.specs.Request.{Loads, Reads}
 use Rattle.reader.specs.declared.load.Header.{Header}
 use Rattle.reader.specs.declared.Request.{Request}
-use Rattle.reader.specs.declared.Request.TheVariants.{Load, Alarms, AtEnd, Refused}
+use Rattle.reader.specs.declared.Request.TheVariants.{Load, Alarms, AtEnd}
 use Rattle.printer.specs.Text.{variables_line, arrays_line, text_stmt, text_program}
 use Rattle.printer.specs.Ready.{StmtReady}
 use Rattle.printer.specs.Printing.{Adds}
@@ -73,9 +73,12 @@ program_printed text bytes words h is l e =
 first_differs : (text bytes : List ℕ) (k : ℕ) (rest : List ℕ) → text ≡ 1 ∷ bytes → k ∷ rest ≡ text → k ≡ 1
 first_differs text bytes k rest is e = let z : k ∷ rest ≡ 1 ∷ bytes = e ∙ is in cc
 
-pub no_program : (text bytes : List ℕ) (r : Request) → text ≡ 1 ∷ bytes → Reads text r → ((h : Header) → r ≡ Load h → ⊥) → (p : Program) → Encodes bytes p → ⊥
+pub no_program : (text bytes : List ℕ) (r : Request) → text ≡ 1 ∷ bytes → Reads text (Some r) → ((h : Header) → r ≡ Load h → ⊥) → (p : Program) → Encodes bytes p → ⊥
 unfolding encode
 no_program text bytes (Load h) is e not_load p q = not_load h refl
 no_program text bytes Alarms is e not_load p q = let z = first_differs text bytes 2 [] is e.0 in omega arith
 no_program text bytes (AtEnd x) is e not_load p q = let z = first_differs text bytes 3 (x ∷ []) is e.0 in omega arith
-no_program text bytes Refused is e not_load p q = let k = as_command bytes p q in e (load p) (k.0 ∙ sym is, k.1)
+
+-- a text that encodes no command loads none
+pub no_command : (text bytes : List ℕ) → text ≡ 1 ∷ bytes → Reads text None → (p : Program) → Encodes bytes p → ⊥
+no_command text bytes is e p q = let k = as_command bytes p q in e (load p) (k.0 ∙ sym is, k.1)

@@ -66,7 +66,10 @@ pub fn print_program(heap: Global, program: &[u8]) -> Result<String, PrintError>
 {
     let command = command_of(heap, program)?;
     let text = command.as_slice();
-    match read_command(text) {
+    let Some(request) = read_command(text) else {
+        return Err(PrintError::NoProgram);
+    };
+    match request {
         Request::Load(header) => Ok(print_loaded(heap, text, &header)?),
         _ => Err(PrintError::NoProgram),
     }

@@ -1,15 +1,14 @@
 -- Commands by their first byte. Rests on the definitions alone.
-use Rattle.std.proofs.Common.{◌≡◌, ℕ, ◌≤◌, true, false, ltb, List, [], ◌∷◌, length, get_or, sym, refl, ap, ◌∙◌, arith}
+use Rattle.std.proofs.Common.{◌≡◌, ℕ, ◌≤◌, true, false, ltb, List, [], ◌∷◌, length, get_or, None, sym, refl, ap, ◌∙◌, arith}
 use Rattle.std.proofs.lemmas.Bool.{both_ways}
 use Rattle.program.specs.Syntax.{Program}
 use Rattle.program.specs.Command.{load, all_alarms, at_end, encode, valid}
 use Rattle.scanner.specs.Bytes.{ByteAt}
-use Rattle.reader.specs.declared.Request.TheVariants.{Refused}
 use Rattle.reader.specs.Request.{EncodingOf, Reads}
 
 -- a command begins with 1, 2 or 3
 pub refused : (text : List ℕ) (b : ℕ) → get_or text 0 0 ≡ b → (b ≡ 1 → (p : Program) → EncodingOf (load p) text → ⊥) → (b ≡ 2 → EncodingOf all_alarms text → ⊥) → (b ≡ 3 → (x : ℕ) → EncodingOf (at_end x) text → ⊥) →
-    Reads text Refused
+    Reads text None
 unfolding encode
 refused text b h k l m (load p) e = k (sym h ∙ ap (λ (bs : List ℕ). get_or bs 0 0) (sym e.0)) p e
 refused text b h k l m all_alarms e = l (sym h ∙ ap (λ (bs : List ℕ). get_or bs 0 0) (sym e.0)) e
@@ -45,7 +44,7 @@ end_wrong text x y h v e =
     both_ways (ltb y 64) (ap (λ (z : ℕ). ltb z 64) same ∙ v) e.1
 
 -- no command is empty
-pub none_empty : (text : List ℕ) → length text ≤ 0 → Reads text Refused
+pub none_empty : (text : List ℕ) → length text ≤ 0 → Reads text None
 unfolding encode
 none_empty text l (load p) e = omega (arith, ap length e.0)
 none_empty text l all_alarms e = omega (arith, ap length e.0)

@@ -17,6 +17,7 @@ use Rattle.scanner.specs.Bytes.{ByteAt, NumberFound}
 use Rattle.scanner.specs.Form.{Here, Scanned}
 use Rattle.scanner.specs.OnePass.{valid_from}
 use Rattle.scanner.specs.Trees.{stmt_form}
+use Rattle.reader.specs.declared.load.Header.{Header}
 use Rattle.reader.specs.Request.{EncodingOf, array_length, LengthsAt, LengthsRead, Loads, HeaderRead}
 use Rattle.scanner.proofs.Parts.{eight_same}
 use Rattle.scanner.proofs.OnePass.{valid_from_is}
@@ -116,9 +117,9 @@ module _ (text : List ℕ) (v n : ℕ) (b : ByteAt text 1 v) (f : NumberFound te
       ne (omega (arith, (k.1 p.body (body_here p h)).stops, h.long, program_length p, same_count text n p f h))
 
   pub header_read : (ls : List ℕ) (last : StmtEnd) → ByteAt text 0 1 → allowed v n (length text - 1) ≡ true → LengthsAt text 10 n ls → Scanned (stmt_form v n 32 3 1) text (10 + 8 * n) (Some last) → last.end ≡ length text →
-      Loads text (record { vars = v; lengths = ls; arrays = n; body = 10 + 8 * n })
+      (h : Header) → h.vars ≡ v → h.lengths ≡ ls → h.arrays ≡ n → h.body ≡ 10 + 8 * n → Loads text h
   unfolding valid
-  header_read ls last one a l k end =
+  header_read ls last one a l k end h vars lengths arrays at =
       let d = k.0.0 in
       let p : Program = record { vars = v; arrays = l.ns; body = d } in
       let ends = k.0.1.1.stops in
@@ -131,9 +132,9 @@ module _ (text : List ℕ) (v n : ℕ) (b : ByteAt text 1 v) (f : NumberFound te
       record {
         program = p;
         encoded = (stands_load text p one.is long stands, program_valid p (program_passes p fits l.allowed passes));
-        vars = refl;
-        arrays = sym l.counted;
-        lengths = rw l.counted l.padded;
-        stands = k.0.1.0.stands;
-        ends = sym ends ∙ end;
+        vars = vars;
+        arrays = arrays ∙ sym l.counted;
+        lengths = lengths ∙ rw l.counted l.padded;
+        stands = rw at k.0.1.0.stands;
+        ends = rw at (sym ends ∙ end);
       }

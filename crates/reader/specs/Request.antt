@@ -7,7 +7,7 @@ use Rattle.program.specs.Command.{Command, load, all_alarms, at_end, encode, val
 use Rattle.encoding.specs.Standing.{Stands}
 use Rattle.reader.specs.declared.load.Header.{Header}
 use Rattle.reader.specs.declared.Request.{Request}
-use Rattle.reader.specs.declared.Request.TheVariants.{Load, Alarms, AtEnd, Refused}
+use Rattle.reader.specs.declared.Request.TheVariants.{Load, Alarms, AtEnd}
 
 -- the text encodes this valid command
 abbrev pub EncodingOf : Command → List ℕ → Type 0
@@ -46,8 +46,8 @@ HeaderRead text None = (p : Program) → EncodingOf (load p) text → ⊥
 HeaderRead text (Some h) = Loads text h
 
 -- the valid command that the text encodes, or that it encodes none
-abbrev pub Reads : List ℕ → Request → Type 0
-Reads text (Load h) = Loads text h
-Reads text Alarms = EncodingOf all_alarms text
-Reads text (AtEnd x) = EncodingOf (at_end x) text
-Reads text Refused = (c : Command) → EncodingOf c text → ⊥
+abbrev pub Reads : List ℕ → Option Request → Type 0
+Reads text (Some (Load h)) = Loads text h
+Reads text (Some Alarms) = EncodingOf all_alarms text
+Reads text (Some (AtEnd x)) = EncodingOf (at_end x) text
+Reads text None = (c : Command) → EncodingOf c text → ⊥

@@ -9,7 +9,8 @@ ghost use Rattle.reader.specs.Request.{Reads};
 mod load;
 
 pub use load::Header;
-use load::{VARIABLES, read_header};
+use load::read_header;
+use program::VARIABLES;
 use scanner::byte_at;
 pub use scanner::read_number;
 
@@ -19,7 +20,6 @@ pub enum Request {
     Load(Header),
     Alarms,
     AtEnd(u64),
-    Refused,
 }
 
 fn is_variable(x: u64) -> bool
@@ -28,53 +28,48 @@ fn is_variable(x: u64) -> bool
     x < VARIABLES
 }
 
-fn read_load(text: &[u8]) -> Request
+fn read_load(text: &[u8]) -> Option<Request>
     requires { ByteAt text.now 0 1 }
     ensures { Reads text.now result }
 {
-    match read_header(text) {
-        Some(header) => Request::Load(header),
-        None => Request::Refused,
-    }
+    let header = read_header(text)?;
+    Some(Request::Load(header))
 }
 
-fn read_alarms(text: &[u8]) -> Request
+fn read_alarms(text: &[u8]) -> Option<Request>
     requires { ByteAt text.now 0 2 }
     ensures { Reads text.now result }
 {
     if text.len() == 1 {
-        Request::Alarms
+        Some(Request::Alarms)
     } else {
-        Request::Refused
+        None
     }
 }
 
-fn read_at_end(text: &[u8]) -> Request
+fn read_at_end(text: &[u8]) -> Option<Request>
     requires { ByteAt text.now 0 3 }
     ensures { Reads text.now result }
 {
     if text.len() != 2 {
-        return Request::Refused;
+        return None;
     }
     let x = text[1] as u64;
     if is_variable(x) {
-        Request::AtEnd(x)
+        Some(Request::AtEnd(x))
     } else {
-        Request::Refused
+        None
     }
 }
 
 // The command that a text encodes, if it is valid.
-pub fn read_command(text: &[u8]) -> Request
+pub fn read_command(text: &[u8]) -> Option<Request>
     ensures { Reads text.now result }
 {
-    let Some(tag) = byte_at(text, 0) else {
-        return Request::Refused;
-    };
-    match tag {
+    match byte_at(text, 0)? {
         1 => read_load(text),
         2 => read_alarms(text),
         3 => read_at_end(text),
-        _ => Request::Refused,
+        _ => None,
     }
 }

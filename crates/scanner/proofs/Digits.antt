@@ -1,35 +1,30 @@
--- A number read digit by digit. Rests on the definition of a number's bytes alone.
-use Rattle.std.proofs.Common.{◌≡◌, ℕ, suc, ◌+◌, ◌*◌, ◌/◌, ◌%◌, ◌^◌, ◌<◌, ◌≤◌, List, ◌∷◌, length, get_or, drop, refl, ap, ◌∙◌, pow-suc, add-one, arith}
-use native.Mathlib.Nat.{pow-le-pow_right}
-use Rattle.std.proofs.lemmas.List.{drop_more}
-use Rattle.program.specs.Basics.{in_bytes, eight}
-use Rattle.encoding.specs.Standing.{Stands}
+-- A number in eight bytes of a text. Rests on what the library says of a number's bytes.
+use Rattle.std.proofs.Common.{◌≡◌, ℕ, zero, suc, ◌+◌, ◌^◌, ◌<◌, List, [], ◌∷◌, ◌++◌, length, get_or, take, drop, sym, ap, ◌∙◌, subst, arith, w64, get_or-drop, length-drop}
+use Rattle.std.proofs.lemmas.List.{length-take-le, take-append-drop}
+use Rattle.std.specs.Array.{IsFirstChunk}
+use Rattle.std.specs.Int.{from_be_bytes}
+use Rattle.std.proofs.lemmas.Nat.{be_bytes_8}
+use Rattle.program.specs.Basics.{eight}
+use Rattle.encoding.proofs.Standing.{stands_from}
+use Rattle.encoding.proofs.Words.{eight_is}
+use Rattle.scanner.specs.Bytes.{NumberFound}
 
--- one more digit
-pub one_digit : (k n x : ℕ) (bs : List ℕ) → x < 256 → in_bytes (k + 1) (n * 256 + x) bs ≡ in_bytes k n (x ∷ bs)
-unfolding in_bytes
-one_digit k n x bs h =
-    let e : k + 1 ≡ suc k = omega arith in
-    let q : (n * 256 + x) / 256 ≡ n = omega arith in
-    let r : (n * 256 + x) % 256 ≡ x = omega arith in
-    rw (e, q, r) refl
+taken_small : (k : ℕ) (xs : List ℕ) → ((i : ℕ) → get_or xs i 0 < 256) → (i : ℕ) → get_or (take k xs) i 0 < 256
+taken_small zero xs h i = omega arith
+taken_small (suc k) [] h i = omega arith
+taken_small (suc k) (x ∷ xs) h zero = h 0
+taken_small (suc k) (x ∷ xs) h (suc i) = taken_small k xs (λ j. h (suc j)) i
 
-pub digits_more : (text : List ℕ) (pos k n x : ℕ) → pos + k < length text → x ≡ get_or text (pos + k) 0 → x < 256 →
-    drop pos text ≡ in_bytes k n (drop (pos + k) text) → drop pos text ≡ in_bytes (k + 1) (n * 256 + x) (drop (pos + (k + 1)) text)
-digits_more text pos k n x h e s d =
-    let a : pos + (k + 1) ≡ pos + k + 1 = omega arith in
-    rw (a, one_digit k n x (drop (pos + k + 1) text) s, e) (d ∙ ap (λ (bs : List ℕ). in_bytes k n bs) (drop_more text (pos + k) 0 h))
-
-pub digits_below : (k n x : ℕ) → n < 256 ^ k → x < 256 → n * 256 + x < 256 ^ (k + 1)
-digits_below k n x h s = let e : 256 ^ (k + 1) ≡ 256 ^ k * 256 = ap (λ (m : ℕ). 256 ^ m) (add-one k) ∙ pow-suc 256 k in omega arith
-
-pub digits_all : (text : List ℕ) (pos n : ℕ) → drop pos text ≡ in_bytes 8 n (drop (pos + 8) text) → Stands text pos (eight n)
-unfolding in_bytes
-digits_all text pos n d = d
-
--- seven digits leave room for one more in 64 bits
-pub seven_digits : (k n : ℕ) → n < 256 ^ k → k < 8 → n < 2 ^ 56
-seven_digits k n h l =
-    let q : k ≤ 7 = omega arith in
-    let m : 256 ^ k ≤ 256 ^ 7 = pow-le-pow_right (omega arith) q in
-    omega arith
+-- the first eight bytes behind the position
+pub number_read : (text rest bytes : List ℕ) (pos n : ℕ) → rest ≡ drop pos text → IsFirstChunk rest bytes 8 → ((i : ℕ) → get_or text i 0 < 256) → n < 2 ^ 64 →
+    n ≡ from_be_bytes w64 bytes → NumberFound text pos n
+number_read text rest bytes pos n d f small fits e =
+    let long : length bytes ≡ 8 = ap length f.same ∙ length-take-le 8 rest f.enough in
+    let behind : (i : ℕ) → get_or rest i 0 < 256 = λ i. subst (λ (b : ℕ). b < 256) (sym (ap (λ (xs : List ℕ). get_or xs i 0) d ∙ get_or-drop pos text i 0)) (small (pos + i)) in
+    let each : (i : ℕ) → get_or bytes i 0 < 256 = λ i. subst (λ (xs : List ℕ). get_or xs i 0 < 256) (sym f.same) (taken_small 8 rest behind i) in
+    let digits : eight n ≡ bytes = eight_is n ∙ be_bytes_8 bytes n long each e in
+    record {
+      inside = omega (arith, f.enough, ap length d, length-drop pos text);
+      stands = stands_from text pos (eight n) (drop 8 rest) (sym d ∙ sym (take-append-drop 8 rest) ∙ ap (λ (xs : List ℕ). xs ++ drop 8 rest) (sym f.same ∙ sym digits));
+      small = fits;
+    }

@@ -8,20 +8,15 @@ ghost use Rattle.scanner.specs.Trees.{test_form, assign_form, store_form, input_
 ghost use Rattle.std.specs.Option.{option_map};
 
 use crate::bytes::{byte_at, read_number};
-
-// Numbers are below this.
-const NUMBERS: u64 = 1 << 32;
+use program::{LIMIT, TESTS};
 
 // There are so many operators.
 const OPERATORS: u64 = 5;
 
-// A condition is made of at most so many tests.
-const TESTS: u64 = 63;
-
 fn is_number(n: u64) -> bool
     ensures { result ≡ nat_lt n limit }
 {
-    n < NUMBERS
+    n < LIMIT
 }
 
 fn is_range(low: u64, high: u64) -> bool
@@ -71,107 +66,11 @@ fn scan_range(text: &[u8], pos: usize) -> Option<usize>
     }
 }
 
-// An expression.
-fn scan_expr(text: &[u8], pos: usize, vars: u64, arrays: u64) -> Option<usize>
-    ensures { Scanned (expr_form vars arrays) text.now pos result }
-{
-    match byte_at(text, pos)? {
-        0 => scan_number(text, pos + 1),
-        1 => scan_byte(text, pos + 1, vars),
-        2 => {
-            let left = scan_byte(text, pos + 1, OPERATORS)?;
-            let right = scan_expr(text, left, vars, arrays)?;
-            scan_expr(text, right, vars, arrays)
-        }
-        3 => {
-            let index = scan_byte(text, pos + 1, arrays)?;
-            scan_expr(text, index, vars, arrays)
-        }
-        _ => None,
-    }
-}
-
-// Two expressions, one behind the other.
-fn scan_exprs(text: &[u8], pos: usize, vars: u64, arrays: u64) -> Option<usize>
-    ensures { Scanned (exprs_form vars arrays) text.now pos result }
-{
-    let second = scan_expr(text, pos, vars, arrays)?;
-    scan_expr(text, second, vars, arrays)
-}
-
 // Where a test ends, and how many more there may be.
 #[derive(Clone, Copy)]
 struct TestEnd {
     end: usize,
     room: u64,
-}
-
-// A test made of at most `room`.
-fn scan_test(text: &[u8], pos: usize, vars: u64, arrays: u64, room: u64) -> Option<TestEnd>
-    ensures { Scanned (test_form vars arrays room) text.now pos result }
-{
-    let tag = byte_at(text, pos)?;
-    if room == 0 {
-        return None;
-    }
-    match tag {
-        0 | 1 => {
-            let end = scan_exprs(text, pos + 1, vars, arrays)?;
-            Some(TestEnd {
-                end,
-                room: room - 1,
-            })
-        }
-        2 => scan_test(text, pos + 1, vars, arrays, room - 1),
-        3 | 4 => {
-            let first = scan_test(text, pos + 1, vars, arrays, room - 1)?;
-            scan_test(text, first.end, vars, arrays, first.room)
-        }
-        _ => None,
-    }
-}
-
-// A test of a check, a branch or a loop.
-fn scan_condition(text: &[u8], pos: usize, vars: u64, arrays: u64) -> Option<TestEnd>
-    ensures { Scanned (test_form vars arrays 63) text.now pos result }
-{
-    scan_test(text, pos, vars, arrays, TESTS)
-}
-
-// What a check, a branch or a loop begins with behind its first byte: its number and a test.
-fn scan_head(text: &[u8], pos: usize, vars: u64, arrays: u64, label: u64) -> Option<usize>
-    ensures { Scanned (head_form vars arrays label) text.now pos result }
-{
-    let test = scan_label(text, pos, label)?;
-    let last = scan_condition(text, test, vars, arrays)?;
-    Some(last.end)
-}
-
-// An assignment behind its first byte.
-fn scan_assign(text: &[u8], pos: usize, vars: u64, arrays: u64, label: u64) -> Option<usize>
-    ensures { Scanned (assign_form vars arrays label) text.now pos result }
-{
-    let variable = scan_label(text, pos, label)?;
-    let value = scan_byte(text, variable, vars)?;
-    scan_expr(text, value, vars, arrays)
-}
-
-// A store behind its first byte.
-fn scan_store(text: &[u8], pos: usize, vars: u64, arrays: u64, label: u64) -> Option<usize>
-    ensures { Scanned (store_form vars arrays label) text.now pos result }
-{
-    let array = scan_label(text, pos, label)?;
-    let index = scan_byte(text, array, arrays)?;
-    scan_exprs(text, index, vars, arrays)
-}
-
-// An input behind its first byte.
-fn scan_input(text: &[u8], pos: usize, vars: u64, label: u64) -> Option<usize>
-    ensures { Scanned (input_form vars label) text.now pos result }
-{
-    let variable = scan_label(text, pos, label)?;
-    let range = scan_byte(text, variable, vars)?;
-    scan_range(text, range)
 }
 
 // Where a statement ends, and the next one's number.
@@ -193,7 +92,148 @@ fn numbered(end: Option<usize>, label: u64) -> Option<StmtEnd>
     })
 }
 
-// A statement whose first number is `next`, with room for so many branches and loops, and so many loops, in each other.
+// The text of a program with so many variables and arrays.
+#[derive(Clone, Copy)]
+struct Scan<'a> {
+    text: &'a [u8],
+    vars: u64,
+    arrays: u64,
+}
+
+impl<'a> Scan<'a> {
+    // An expression.
+    fn expr(&self, pos: usize) -> Option<usize>
+        ensures { Scanned (expr_form self.now.vars self.now.arrays) self.now.text.now pos result }
+    {
+        match byte_at(self.text, pos)? {
+            0 => scan_number(self.text, pos + 1),
+            1 => scan_byte(self.text, pos + 1, self.vars),
+            2 => {
+                let left = scan_byte(self.text, pos + 1, OPERATORS)?;
+                let right = self.expr(left)?;
+                self.expr(right)
+            }
+            3 => {
+                let index = scan_byte(self.text, pos + 1, self.arrays)?;
+                self.expr(index)
+            }
+            _ => None,
+        }
+    }
+
+    // Two expressions, one behind the other.
+    fn exprs(&self, pos: usize) -> Option<usize>
+        ensures { Scanned (exprs_form self.now.vars self.now.arrays) self.now.text.now pos result }
+    {
+        let second = self.expr(pos)?;
+        self.expr(second)
+    }
+
+    // A test made of at most `room`.
+    fn test(&self, pos: usize, room: u64) -> Option<TestEnd>
+        ensures { Scanned (test_form self.now.vars self.now.arrays room) self.now.text.now pos result }
+    {
+        let tag = byte_at(self.text, pos)?;
+        if room == 0 {
+            return None;
+        }
+        match tag {
+            0 | 1 => {
+                let end = self.exprs(pos + 1)?;
+                Some(TestEnd {
+                    end,
+                    room: room - 1,
+                })
+            }
+            2 => self.test(pos + 1, room - 1),
+            3 | 4 => {
+                let first = self.test(pos + 1, room - 1)?;
+                self.test(first.end, first.room)
+            }
+            _ => None,
+        }
+    }
+
+    // A test of a check, a branch or a loop.
+    fn condition(&self, pos: usize) -> Option<TestEnd>
+        ensures { Scanned (test_form self.now.vars self.now.arrays 63) self.now.text.now pos result }
+    {
+        self.test(pos, TESTS)
+    }
+
+    // What a check, a branch or a loop begins with behind its first byte: its number and a test.
+    fn head(&self, pos: usize, label: u64) -> Option<usize>
+        ensures { Scanned (head_form self.now.vars self.now.arrays label) self.now.text.now pos result }
+    {
+        let test = scan_label(self.text, pos, label)?;
+        let last = self.condition(test)?;
+        Some(last.end)
+    }
+
+    // An assignment behind its first byte.
+    fn assign(&self, pos: usize, label: u64) -> Option<usize>
+        ensures { Scanned (assign_form self.now.vars self.now.arrays label) self.now.text.now pos result }
+    {
+        let variable = scan_label(self.text, pos, label)?;
+        let value = scan_byte(self.text, variable, self.vars)?;
+        self.expr(value)
+    }
+
+    // A store behind its first byte.
+    fn store(&self, pos: usize, label: u64) -> Option<usize>
+        ensures { Scanned (store_form self.now.vars self.now.arrays label) self.now.text.now pos result }
+    {
+        let array = scan_label(self.text, pos, label)?;
+        let index = scan_byte(self.text, array, self.arrays)?;
+        self.exprs(index)
+    }
+
+    // An input behind its first byte.
+    fn input(&self, pos: usize, label: u64) -> Option<usize>
+        ensures { Scanned (input_form self.now.vars label) self.now.text.now pos result }
+    {
+        let variable = scan_label(self.text, pos, label)?;
+        let range = scan_byte(self.text, variable, self.vars)?;
+        scan_range(self.text, range)
+    }
+
+    // A statement whose first number is `next`, with room for so many branches and loops, and so many loops, in each other.
+    fn stmt(&self, pos: usize, next: u64, nesting: u64, loops: u64) -> Option<StmtEnd>
+        requires { next ≤ pos }
+        ensures { Scanned (stmt_form self.now.vars self.now.arrays nesting loops next) self.now.text.now pos result }
+    {
+        match byte_at(self.text, pos)? {
+            0 => Some(StmtEnd { end: pos + 1, next }),
+            1 => numbered(self.assign(pos + 1, next), next),
+            2 => numbered(self.store(pos + 1, next), next),
+            3 => numbered(self.input(pos + 1, next), next),
+            4 => numbered(self.head(pos + 1, next), next),
+            5 => {
+                let first = self.stmt(pos + 1, next, nesting, loops)?;
+                self.stmt(first.end, first.next, nesting, loops)
+            }
+            6 => {
+                if nesting == 0 {
+                    return None;
+                }
+                let yes = self.head(pos + 1, next)?;
+                let no = self.stmt(yes, next + 1, nesting - 1, loops)?;
+                self.stmt(no.end, no.next, nesting - 1, loops)
+            }
+            7 => {
+                if nesting == 0 || loops == 0 {
+                    return None;
+                }
+                let body = self.head(pos + 1, next)?;
+                self.stmt(body, next + 1, nesting - 1, loops - 1)
+            }
+            _ => None,
+        }
+    }
+}
+
+// A statement of a program with so many variables and arrays, whose first number is `next`, with room for so many branches and loops,
+// and so many loops, in each other.
 pub fn scan_stmt(
     text: &[u8],
     pos: usize,
@@ -206,31 +246,6 @@ pub fn scan_stmt(
     requires { next ≤ pos }
     ensures { Scanned (stmt_form vars arrays nesting loops next) text.now pos result }
 {
-    match byte_at(text, pos)? {
-        0 => Some(StmtEnd { end: pos + 1, next }),
-        1 => numbered(scan_assign(text, pos + 1, vars, arrays, next), next),
-        2 => numbered(scan_store(text, pos + 1, vars, arrays, next), next),
-        3 => numbered(scan_input(text, pos + 1, vars, next), next),
-        4 => numbered(scan_head(text, pos + 1, vars, arrays, next), next),
-        5 => {
-            let first = scan_stmt(text, pos + 1, vars, arrays, next, nesting, loops)?;
-            scan_stmt(text, first.end, vars, arrays, first.next, nesting, loops)
-        }
-        6 => {
-            if nesting == 0 {
-                return None;
-            }
-            let yes = scan_head(text, pos + 1, vars, arrays, next)?;
-            let no = scan_stmt(text, yes, vars, arrays, next + 1, nesting - 1, loops)?;
-            scan_stmt(text, no.end, vars, arrays, no.next, nesting - 1, loops)
-        }
-        7 => {
-            if nesting == 0 || loops == 0 {
-                return None;
-            }
-            let body = scan_head(text, pos + 1, vars, arrays, next)?;
-            scan_stmt(text, body, vars, arrays, next + 1, nesting - 1, loops - 1)
-        }
-        _ => None,
-    }
+    let scan = Scan { text, vars, arrays };
+    scan.stmt(pos, next, nesting, loops)
 }

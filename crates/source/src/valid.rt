@@ -28,7 +28,7 @@ fn command_of(heap: Global, program: &[u8]) -> Result<Vec<u8>, AllocError>
 fn header_of(command: &[u8]) -> Option<Header>
     ensures { IfSome result (λ h. Loads command.now h) }
 {
-    match read_command(command) {
+    match read_command(command)? {
         Request::Load(header) => Some(header),
         _ => None,
     }

@@ -20,12 +20,6 @@ pub loads_valid : (text : List ℕ) (h : Header) (l : Loads text h) → valid_pr
 unfolding valid
 loads_valid text h l = l.encoded.1
 
--- it has at most 64 variables and 16 arrays
-pub loads_bounded : (text : List ℕ) (h : Header) → Loads text h → (h.vars ≤ 64) × (h.arrays ≤ 16)
-loads_bounded text h l =
-    let q = program_parts l.program (loads_valid text h l) in
-    (omega (arith, l.vars, q.vars), omega (arith, l.arrays, q.arrays))
-
 -- its arrays' lengths are the first that were read
 loads_lengths : (text : List ℕ) (h : Header) (l : Loads text h) → take h.arrays h.lengths ≡ l.program.arrays
 loads_lengths text h l = rw l.lengths (take_at l.program.arrays _ h.arrays (sym l.arrays))

@@ -2,7 +2,7 @@
 
 #![tactic(auto)]
 
-ghost use Rattle.std.specs.Prelude.{◌≡◌, ◌≤◌, length};
+ghost use Rattle.std.specs.Prelude.{◌≡◌, length};
 ghost use Rattle.reader.specs.Request.{Loads};
 ghost use Rattle.task.specs.Task.{TaskOf};
 
@@ -13,11 +13,10 @@ use walker::Task;
 
 // The task of a pass through the program that the header was read from; the thresholds are put to the front of the table.
 pub fn task_of<'a>(text: &'a [u8], header: &'a Header, table: &'a mut [u64]) -> Task<'a>
-    requires bounded { (header.now.vars ≤ 64) × (header.now.arrays ≤ 16) }
-    requires room { length table.old ≡ 11000 }
+    requires { length table.old ≡ 11000 }
     ensures { (l : Loads text.now header.now) → TaskOf l.program text.now result }
 {
-    let lengths = &header.lengths[..header.arrays as usize];
+    let lengths = header.lengths();
     let count = collect(text, header.body, lengths, table);
     Task {
         text,

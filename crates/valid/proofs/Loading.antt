@@ -1,5 +1,5 @@
 -- A text that the reader takes for a command that loads a program is that program's; and a text's parts by the program. Rests on the encoding.
-use Rattle.std.proofs.Common.{◌≡◌, ℕ, ◌≤◌, List, length, get_or, drop, sym, refl, ap, ◌∙◌, subst, arith}
+use Rattle.std.proofs.Common.{◌≡◌, ℕ, ◌≤◌, List, length, get_or, drop, Some, sym, refl, ap, ◌∙◌, subst, arith}
 use Rattle.program.specs.Syntax.{Program}
 use Rattle.program.specs.Encoding.{encode_program}
 use Rattle.program.specs.Command.{Command, load, all_alarms, at_end, encode}
@@ -9,7 +9,7 @@ use Rattle.encoding.specs.Statements.{EncodedOnce}
 use Rattle.reader.specs.Request.{EncodingOf, Reads}
 use Rattle.reader.specs.declared.load.Header.{Header}
 use Rattle.reader.specs.declared.Request.{Request}
-use Rattle.reader.specs.declared.Request.TheVariants.{Load, Alarms, AtEnd, Refused}
+use Rattle.reader.specs.declared.Request.TheVariants.{Load, Alarms, AtEnd}
 use Rattle.valid.specs.Loaded.{heard_program, program_of}
 
 -- the program that is encoded is the one that is heard
@@ -19,7 +19,7 @@ program_is text p h = ap heard_program (hear_is text (heard (load p)) h)
 pub of_heard : (text : List ℕ) (p : Program) → EncodingOf (load p) text → EncodingOf (load (program_of text)) text
 of_heard text p h = subst (λ (q : Program). EncodingOf (load q) text) (sym (program_is text p h)) h
 
-pub no_load : (text : List ℕ) (r : Request) → Reads text r → ((h : Header) → r ≡ Load h → ⊥) → (p : Program) → EncodingOf (load p) text → ⊥
+pub no_load : (text : List ℕ) (r : Request) → Reads text (Some r) → ((h : Header) → r ≡ Load h → ⊥) → (p : Program) → EncodingOf (load p) text → ⊥
 unfolding EncodedOnce
 no_load text (Load h) g n p e = n h refl
 no_load text Alarms g n p e = let z : ◌≡◌ {A = Command} (load p) all_alarms = encoded_once (load p) all_alarms e.1 g.1 (e.0 ∙ sym g.0) in absurd (one-other z)
@@ -30,7 +30,6 @@ no_load text (AtEnd x) g n p e = let z : ◌≡◌ {A = Command} (load p) (at_en
   where
     one-other : load p ≡ at_end x → ⊥
     one-other z = let w : ◌≡◌ {A = ℕ} 0 1 = cc in omega arith
-no_load text Refused g n p e = g (load p) e
 
 -- behind the first byte stands the program, whose first byte is the number of variables
 pub program_behind : (text : List ℕ) (p : Program) → encode (load p) ≡ text → drop 1 text ≡ encode_program p

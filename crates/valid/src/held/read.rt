@@ -12,7 +12,7 @@ impl ValidProgram {
     pub fn new(bytes: Vec<u8>) -> Option<ValidProgram>
         ensures { Taken bytes.items result }
     {
-        match read_command(bytes.as_slice()) {
+        match read_command(bytes.as_slice())? {
             Request::Load(_) => Some(ValidProgram { bytes }),
             _ => None,
         }

@@ -2,7 +2,7 @@
 use Rattle.std.proofs.Common.{◌≡◌, ℕ, sym, subst, arith}
 use Rattle.reader.specs.Request.{LengthsAt}
 use Rattle.reader.proofs.ArrayLengths.{lengths_none, lengths_more, lengths_past, lengths_wrong}
-use Rattle.reader.proofs.load.read_lengths.Goals as goal
+use Rattle.reader.proofs.load.read.read_lengths.Goals as goal
 
 pub loop-i-init : goal.loop-i-init
 loop-i-init c = lengths_none c.args.text.now c.args.pos

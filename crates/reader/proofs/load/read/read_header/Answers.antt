@@ -1,7 +1,7 @@
 -- The header, part by part.
-use Rattle.std.proofs.Common.{sym}
+use Rattle.std.proofs.Common.{sym, refl}
 use Rattle.reader.proofs.Headers.{no_vars, no_count, not_allowed, no_lengths, no_body, not_all, header_read}
-use Rattle.reader.proofs.load.read_header.Goals as goal
+use Rattle.reader.proofs.load.read.read_header.Goals as goal
 
 pub returns-in_err-vars : goal.returns-in_err-vars
 returns-in_err-vars c = rw c.from_residual.ensures (no_vars c.args.text.now c.in_err-vars.ensures)
@@ -30,4 +30,4 @@ returns-then-last-text c =
 pub returns : goal.returns
 returns c =
     header_read c.args.text.now _ c.in_ok-arrays.arrays c.in_ok-vars.ensures c.in_ok-arrays.ensures c.in_ok-lengths.lengths c.in_ok-last.last
-    c.requires (sym c.if-not-are_allowed.ensures) c.in_ok-lengths.ensures c.in_ok-last.ensures c.if-last-text.false
+    c.requires (sym c.if-not-are_allowed.ensures) c.in_ok-lengths.ensures c.in_ok-last.ensures c.if-last-text.false _ refl refl refl refl
