@@ -8,33 +8,19 @@ ghost use Rattle.state.specs.Of.{as_abstract};
 ghost use Rattle.walker.specs.Ready.{StmtReady};
 ghost use Rattle.machine.specs.Loading.{BodyAnalysed};
 
-use fixpoint::round_limit;
 use reader::Header;
 use state::Abstract;
 use tables::{SCRATCH, SLOTS, WORDS, store};
-use thresholds::collect;
+use task::task_of;
 use walker::{Task, analyse_at};
 
 // What is known behind the statement at `body`, from all 0; its alarms are marked in the table.
-fn analyse_body<'a>(
-    text: &'a [u8],
-    body: usize,
-    lengths: &'a [u64],
-    thresholds: &'a [u64],
-    rounds: usize,
-    table: &mut [u64],
-) -> Abstract
-    ensures { (d : Stmt) → IsNonDecreasing thresholds.now → StmtReady text.now body (length text.now) d →
-        BodyAnalysed lengths.now thresholds.now rounds d (as_abstract result) table.old table.new }
+fn analyse_body(task: &Task, body: usize, table: &mut [u64]) -> Abstract
+    ensures { (d : Stmt) → IsNonDecreasing task.now.thresholds.now → StmtReady task.now.text.now body (length task.now.text.now) d →
+        BodyAnalysed task.now.lengths.now task.now.thresholds.now task.now.rounds d (as_abstract result) table.old table.new }
 {
-    let task = Task {
-        text,
-        lengths,
-        thresholds,
-        rounds,
-    };
     let mut state = Abstract::initial();
-    let _ = analyse_at(&task, body, text.len(), &mut state, table);
+    let _ = analyse_at(task, body, task.text.len(), &mut state, table);
     state
 }
 
@@ -42,22 +28,8 @@ fn analyse_body<'a>(
 pub fn load(memory: &mut [u64; WORDS], text: &[u8], header: &Header)
     ensures { (l : Loads text.now header.now) → memory.new ≡ laid 0 l.program }
 {
-    let arrays = header.arrays as usize;
-    let count = collect(
-        text,
-        header.body,
-        &header.lengths[0..arrays],
-        &mut memory[SCRATCH..WORDS],
-    );
-    let rounds = round_limit(header.vars, header.arrays, count);
+    let task = task_of(text, header, &mut memory[SCRATCH..WORDS]);
     let mut table = [0; SLOTS];
-    let state = analyse_body(
-        text,
-        header.body,
-        &header.lengths[0..arrays],
-        &memory[SCRATCH..SCRATCH + count],
-        rounds,
-        &mut table,
-    );
+    let state = analyse_body(&task, header.body, &mut table);
     store(memory, header.vars, &state, &table);
 }

@@ -99,41 +99,41 @@ same_refl : (c : Collector) → SameLoans c c
 same_refl c = record { text = refl; table = refl }
 
 -- k bytes without thresholds
-pub no_part : (c : Collector) (pos left k p : ℕ) (bs ms : List ℕ) → Ready c pos left bs ms → p ≡ pos + k → length bs ≡ k → ms ≡ [] → Collects ms (pos + length bs) c c p
-no_part c pos left k p bs ms h e l i = ended c c (pos + k) (pos + length bs) p [] ms i (omega arith) (begun c (pos + k) p e)
+pub no_part : {c : Collector} {pos left p : ℕ} {bs ms : List ℕ} (k : ℕ) → Ready c pos left bs ms → p ≡ pos + k → length bs ≡ k → ms ≡ [] → Collects ms (pos + length bs) c c p
+no_part {c = c} {pos = pos} {left = left} {p = p} {bs = bs} {ms = ms} k h e l i = ended c c (pos + k) (pos + length bs) p [] ms i (omega arith) (begun c (pos + k) p e)
 
 -- k bytes with thresholds of their own
-pub leaf : (c c₁ : Collector) (pos left k p : ℕ) (bs ms xs : List ℕ) → Ready c pos left bs ms → p ≡ pos + k → length bs ≡ k → ms ≡ xs →
+pub leaf : {c c₁ : Collector} {pos left p : ℕ} {bs ms xs : List ℕ} (k : ℕ) → Ready c pos left bs ms → p ≡ pos + k → length bs ≡ k → ms ≡ xs →
     Writes xs c c₁ → Collects ms (pos + length bs) c c₁ p
-leaf c c₁ pos left k p bs ms xs h e l i write =
+leaf {c = c} {c₁ = c₁} {pos = pos} {left = left} {p = p} {bs = bs} {ms = ms} {xs = xs} k h e l i write =
     let m = subst (λ (ys : List ℕ). Room ys c) i h.room in
     record { written = subst (λ (ys : List ℕ). Written ys c c₁) (sym i) (write m.fits); stops = omega arith }
 
 -- k bytes and one part
-pub one_part : (c c₁ : Collector) (pos left k p end : ℕ) (bs ms as₁ xs : List ℕ) → Ready c pos left bs ms → p ≡ pos + k → 0 < k →
+pub one_part : {c c₁ : Collector} {pos left p end : ℕ} {bs ms as₁ xs : List ℕ} (k : ℕ) → Ready c pos left bs ms → p ≡ pos + k → 0 < k →
     length bs ≡ k + length as₁ → ms ≡ xs → Stands c.text.now (pos + k) as₁ → Walk c p (left - 1) c₁ end as₁ xs → Collects ms (pos + length bs) c c₁ end
-one_part c c₁ pos left k p end bs ms as₁ xs h e k0 l i s walk =
+one_part {c = c} {c₁ = c₁} {pos = pos} {left = left} {p = p} {end = end} {bs = bs} {ms = ms} {as₁ = as₁} {xs = xs} k h e k0 l i s walk =
     let m = subst (λ (ys : List ℕ). Room ys c) i h.room in
     let one = further c c c₁ (left - 1) (pos + k) p end [] as₁ xs (same_refl c) (begun c (pos + k) p e) m s (omega (arith, h.enough)) walk in
     ended c c₁ (pos + k + length as₁) (pos + length bs) end xs ms i (omega arith) one
 
 -- k bytes and two parts
-pub two_parts : (c c₁ c₂ : Collector) (pos left k p end₁ end₂ : ℕ) (bs ms as₁ xs cs ys : List ℕ) → Ready c pos left bs ms → p ≡ pos + k → 0 < k →
+pub two_parts : {c c₁ c₂ : Collector} {pos left p end₁ end₂ : ℕ} {bs ms as₁ xs cs ys : List ℕ} (k : ℕ) → Ready c pos left bs ms → p ≡ pos + k → 0 < k →
     length bs ≡ k + length as₁ + length cs → ms ≡ xs ++ ys → Stands c.text.now (pos + k) as₁ → Stands c.text.now (pos + k + length as₁) cs →
     SameLoans c c₁ → Walk c p (left - 1) c₁ end₁ as₁ xs → Walk c₁ end₁ (left - 1) c₂ end₂ cs ys → Collects ms (pos + length bs) c c₂ end₂
-two_parts c c₁ c₂ pos left k p end₁ end₂ bs ms as₁ xs cs ys h e k0 l i s t same walk walk₁ =
+two_parts {c = c} {c₁ = c₁} {c₂ = c₂} {pos = pos} {left = left} {p = p} {end₁ = end₁} {end₂ = end₂} {bs = bs} {ms = ms} {as₁ = as₁} {xs = xs} {cs = cs} {ys = ys} k h e k0 l i s t same walk walk₁ =
     let m = subst (λ (zs : List ℕ). Room zs c) i h.room in
     let one = further c c c₁ (left - 1) (pos + k) p end₁ [] as₁ xs (same_refl c) (begun c (pos + k) p e) (room_left xs ys c m) s (omega (arith, h.enough)) walk in
     let two = further c c₁ c₂ (left - 1) (pos + k + length as₁) end₁ end₂ xs cs ys same one m t (omega (arith, h.enough)) walk₁ in
     ended c c₂ (pos + k + length as₁ + length cs) (pos + length bs) end₂ (xs ++ ys) ms i (omega arith) two
 
 -- k bytes and three parts
-pub three_parts : (c c₁ c₂ c₃ : Collector) (pos left k p end₁ end₂ end₃ : ℕ) (bs ms as₁ xs cs ys ds zs : List ℕ) → Ready c pos left bs ms → p ≡ pos + k → 0 < k →
+pub three_parts : {c c₁ c₂ c₃ : Collector} {pos left p end₁ end₂ end₃ : ℕ} {bs ms as₁ xs cs ys ds zs : List ℕ} (k : ℕ) → Ready c pos left bs ms → p ≡ pos + k → 0 < k →
     length bs ≡ k + length as₁ + length cs + length ds → ms ≡ xs ++ ys ++ zs →
     Stands c.text.now (pos + k) as₁ → Stands c.text.now (pos + k + length as₁) cs → Stands c.text.now (pos + k + length as₁ + length cs) ds →
     SameLoans c c₁ → SameLoans c₁ c₂ → Walk c p (left - 1) c₁ end₁ as₁ xs → Walk c₁ end₁ (left - 1) c₂ end₂ cs ys → Walk c₂ end₂ (left - 1) c₃ end₃ ds zs →
     Collects ms (pos + length bs) c c₃ end₃
-three_parts c c₁ c₂ c₃ pos left k p end₁ end₂ end₃ bs ms as₁ xs cs ys ds zs h e k0 l i s t u same same₁ walk walk₁ walk₂ =
+three_parts {c = c} {c₁ = c₁} {c₂ = c₂} {c₃ = c₃} {pos = pos} {left = left} {p = p} {end₁ = end₁} {end₂ = end₂} {end₃ = end₃} {bs = bs} {ms = ms} {as₁ = as₁} {xs = xs} {cs = cs} {ys = ys} {ds = ds} {zs = zs} k h e k0 l i s t u same same₁ walk walk₁ walk₂ =
     let m = subst (λ (vs : List ℕ). Room vs c) i h.room in
     let n = room_left (xs ++ ys) zs c m in
     let one = further c c c₁ (left - 1) (pos + k) p end₁ [] as₁ xs (same_refl c) (begun c (pos + k) p e) (room_left xs ys c n) s (omega (arith, h.enough)) walk in
@@ -142,15 +142,11 @@ three_parts c c₁ c₂ c₃ pos left k p end₁ end₂ end₃ bs ms as₁ xs cs
     ended c c₃ (pos + k + length as₁ + length cs + length ds) (pos + length bs) end₃ (xs ++ ys ++ zs) ms i (omega arith) three
 
 -- where something stands, there are bytes left and the text goes on
-pub inside : (c : Collector) (pos left : ℕ) (bs ms : List ℕ) → Ready c pos left bs ms → 0 < length bs → (0 < left) × (pos + length bs ≤ length c.text.now)
-inside c pos left [] ms h l = absurd (omega arith)
-inside c pos left (b ∷ bs) ms h l = (omega (arith, h.enough), stands_within c.text.now pos b bs h.stands)
+pub inside : {c : Collector} {pos left : ℕ} {bs ms : List ℕ} → Ready c pos left bs ms → 0 < length bs → (0 < left) × (pos + length bs ≤ length c.text.now)
+inside {bs = []} h l = absurd (omega arith)
+inside {c = c} {pos = pos} {bs = b ∷ bs} h l = (omega (arith, h.enough), stands_within c.text.now pos b bs h.stands)
 
 -- so no walk over something ends for want of bytes
-pub nowhere : (c c₁ : Collector) (pos left end : ℕ) (bs ms : List ℕ) → Ready c pos left bs ms → 0 < length bs →
+pub nowhere : {c c₁ : Collector} {pos left end : ℕ} {bs ms : List ℕ} → Ready c pos left bs ms → 0 < length bs →
     (left ≡ 0) ⊎ (length c.text.now ≤ pos) → Collects ms (pos + length bs) c c₁ end
-nowhere c c₁ pos left end bs ms h l e = let i = inside c pos left bs ms h l in absurd (omega (arith, i, e))
-
--- nor because it stands for nothing
-pub astray : (c c₁ : Collector) (ms : List ℕ) (stop end : ℕ) → ⊥ → Collects ms stop c c₁ end
-astray c c₁ ms stop end h = absurd h
+nowhere h l e = let i = inside h l in absurd (omega (arith, i, e))

@@ -12,7 +12,10 @@ mod whole;
 pub use bisect::{above, below, widen};
 pub use whole::collect;
 
-// A valid program has at most 11,000 thresholds.
+// A valid program has at most so many thresholds.
+pub const THRESHOLDS: usize = 11000;
+
+// That it has no more.
 pub fn few_thresholds() -> u8
     ensures { FewThresholds }
 {
