@@ -15,8 +15,7 @@ fn show(rt: &HostRuntime, answer: &Answer) -> anyhow::Result<()> {
         let bytes = row.bytes(heap)?;
         rt.println(hex_text(heap, bytes.as_slice())?)?;
     }
-    let end = answer.end;
-    println!(rt; "end {end}")?;
+    println!(rt; "end {}", answer.end)?;
     Ok(())
 }
 

@@ -10,15 +10,6 @@ use Rattle.printer.proofs.StmtParts.{stmt_next, bounds_next, assign_is, assign_r
 use Rattle.printer.proofs.Statements.{skip_text, block_text, plain_text, group_text, seq_text, no_else_text, else_text, branch_text, loop_text}
 use Rattle.printer.proofs.write.Printer.+statements.Goals as goal
 
--- lines of their own
-
-pub block-returns : goal.block-returns
-block-returns t c =
-    on_ok_weaker {P = Prints _ _ _ _} {Q = BlockPrinted _ c.args.depth _ _} _ (λ q s ready.
-    let begun = c.in_ok-put.ensures in
-    let v = c.in_ok-stmt.ensures s (stmt_next begun ready (omega (arith, begun.pos))) in
-    same_steps (also (also (also begun v) c.in_ok-put-2.ensures) q) (omega arith) (block_text c.args.depth _ s c.deeper.ensures)) c.indent.ensures
-
 -- the first of two statements
 
 pub first-returns-then-peek-ne-SEQ : goal.first-returns-then-peek-ne-SEQ

@@ -13,8 +13,3 @@ pub loop-i-preserved : goal.loop-i-preserved
 loop-i-preserved c =
     same_steps (also (also (also (also c.loop-i.invariant c.in_ok-put.ensures) c.in_ok-number.ensures) c.in_ok-number-2.ensures) c.in_ok-put-2.ensures) refl
     (array_more _ c.loop-i.i _ _ c.separator.ensures refl)
-
-pub returns : goal.returns
-returns c =
-    let all : c.loop-i.i ≡ length c.args.lengths.now = omega arith in
-    on_ok_weaker _ (λ e. also (same_steps c.loop-i.invariant refl (ap (declared_arrays c.args.lengths.now) all)) e) c.end_line.ensures

@@ -10,6 +10,3 @@ loop-init c = no_step _
 pub loop-preserved : goal.loop-preserved
 unfolding indent
 loop-preserved c = same_steps (also c.loop.invariant c.in_ok-put.ensures) refl (sym (ap indent (add-one c.loop.counter)))
-
-pub returns : goal.returns
-returns c = same_steps c.loop.invariant refl (ap indent (omega arith))

@@ -11,8 +11,3 @@ loop-i-init c = no_step _
 
 pub loop-i-preserved : goal.loop-i-preserved
 loop-i-preserved c = same_steps (also (also c.loop-i.invariant c.in_ok-put.ensures) c.in_ok-number.ensures) refl (variable_more c.loop-i.i _ c.separator.ensures)
-
-pub returns : goal.returns
-returns c =
-    let all : c.loop-i.i ≡ c.args.count = omega arith in
-    on_ok_weaker _ (λ e. also (same_steps c.loop-i.invariant refl (ap declared_variables all)) e) c.end_line.ensures
