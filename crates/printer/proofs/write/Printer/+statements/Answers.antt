@@ -7,7 +7,7 @@ use Rattle.printer.specs.Printing.{Prints, StmtPrinted, BlockPrinted, FirstPrint
 use Rattle.printer.proofs.Adding.{also, same_steps, head_passed}
 use Rattle.printer.proofs.ReadyParts.{ready_next}
 use Rattle.printer.proofs.StmtParts.{bounds_next, assign_is, assign_ready, store_is, store_ready, input_is, input_bounds, check_ready, seq_ready, branch_test_ready, branch_ready, loop_ready}
-use Rattle.printer.proofs.Statements.{skip_text, block_text, plain_text, group_text, seq_text, no_else_text, else_text, branch_text, loop_text}
+use Rattle.printer.proofs.Statements.{skip_text, plain_text, group_text, seq_text, no_else_text, else_text, branch_text, loop_text}
 use Rattle.printer.proofs.write.Printer.+statements.Goals as goal
 
 -- the first of two statements

@@ -1,6 +1,5 @@
-use Rattle.std.proofs.Common.{◌≡◌, length, refl, ap, arith}
+use Rattle.std.proofs.Common.{refl}
 use Rattle.printer.specs.Text.{declared_arrays}
-use Rattle.std.proofs.lemmas.Result.{on_ok_weaker}
 use Rattle.printer.proofs.Adding.{also, same_steps, no_step}
 use Rattle.printer.proofs.Declarations.{array_more}
 use Rattle.printer.proofs.write.Printer.arrays.Goals as goal

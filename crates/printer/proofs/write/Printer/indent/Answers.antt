@@ -1,4 +1,4 @@
-use Rattle.std.proofs.Common.{sym, refl, ap, add-one, arith}
+use Rattle.std.proofs.Common.{sym, refl, ap, add-one}
 use Rattle.printer.specs.Text.{indent}
 use Rattle.printer.proofs.Adding.{also, same_steps, no_step}
 use Rattle.printer.proofs.write.Printer.indent.Goals as goal

@@ -1,6 +1,5 @@
-use Rattle.std.proofs.Common.{◌≡◌, refl, ap, arith}
+use Rattle.std.proofs.Common.{refl}
 use Rattle.printer.specs.Text.{declared_variables}
-use Rattle.std.proofs.lemmas.Result.{on_ok_weaker}
 use Rattle.printer.proofs.Adding.{also, same_steps, no_step}
 use Rattle.printer.proofs.Declarations.{variable_more}
 use Rattle.printer.proofs.write.Printer.variables.Goals as goal
