@@ -3,9 +3,10 @@
 #![tactic(auto)]
 
 use anyhow::anyhow;
+use outcome::exit_code;
 use printer::{PrintError, print_program};
 use std::process::ExitCode;
-use std::{env, fs};
+use std::{env, fs, io};
 
 fn list(rt: &HostRuntime, path: &str) -> anyhow::Result<()> {
     let heap = rt.alloc();
@@ -21,16 +22,11 @@ fn list(rt: &HostRuntime, path: &str) -> anyhow::Result<()> {
 }
 
 fn run(rt: &HostRuntime) -> anyhow::Result<()> {
-    for path in env::args(rt)?.skip(1) {
-        list(rt, path.as_str())?;
-    }
-    Ok(())
+    env::args(rt)?
+        .skip(1)
+        .try_for_each(|path| list(rt, path.as_str()))
 }
 
-fn main(rt: HostRuntime) -> anyhow::Result<ExitCode> {
-    if let Err(e) = run(&rt) {
-        eprintln!(rt; "listing: {e}")?;
-        return Ok(ExitCode::FAILURE);
-    }
-    Ok(ExitCode::SUCCESS)
+fn main(rt: HostRuntime) -> io::Result<ExitCode> {
+    exit_code(&rt, "listing", run(&rt))
 }

@@ -4,9 +4,10 @@ use Rattle.std.specs.Prelude.{◌≡◌, ℕ, ◌+◌, ◌^◌, ◌<◌, ◌==�
 use Rattle.program.specs.Basics.{eight, limit}
 use Rattle.program.specs.Syntax.{Expr, Test, Stmt, assign, store, input, check, branch, loop}
 use Rattle.program.specs.Encoding.{encode_expr, encode_test, encode_stmt}
+use Rattle.program.specs.Validity.{valid_expr, valid_test, valid_stmt}
 use Rattle.encoding.specs.Standing.{Stands}
 use Rattle.printer.specs.Text.{text_expr, text_test, text_stmt, first_of, else_of, block, deeper, is_seq, is_skip}
-use Rattle.printer.specs.Ready.{ExprReady, TestReady, StmtReady}
+use Rattle.printer.specs.Ready.{Ready, ExprReady, TestReady, StmtReady}
 use Rattle.printer.specs.declared.write.Printer.{Printer}
 
 -- so many bytes more are behind, `words` are added to what was printed before, and the bytes stay
@@ -23,12 +24,13 @@ Passes count old new = old.pos + count < 2 ^ 64 → Prints count [] old new
 abbrev pub head_size : ℕ → ℕ
 head_size kind = cond (kind == 0 || kind == 5) 1 9
 
--- each says what is printed of whatever stands next
+-- of whatever stands next, encoded and valid so, these words are printed
+abbrev pub Printed : {A : Type 0} → (A → List ℕ) → (ℕ → ℕ → A → Bool) → (A → List ℕ) → ℕ → Printer → Printer → Type 0
+Printed {A} encode is_valid words left old new = (x : A) → Ready encode is_valid old.text.now old.pos left x → Prints (length (encode x)) (words x) old new
 
 -- the expression, as an operand or not
 abbrev pub ExprPrinted : ℕ → Bool → Printer → Printer → Type 0
-ExprPrinted left operand old new =
-    (e : Expr) → ExprReady old.text.now old.pos left e → Prints (length (encode_expr e)) (text_expr operand e) old new
+ExprPrinted left operand old new = Printed encode_expr valid_expr (text_expr operand) left old new
 
 -- two expressions, one behind the other, with a word between them
 abbrev pub SidesPrinted : ℕ → List ℕ → Printer → Printer → Type 0
@@ -38,7 +40,7 @@ SidesPrinted left word old new =
 
 -- the test
 abbrev pub TestPrinted : ℕ → Printer → Printer → Type 0
-TestPrinted left old new = (t : Test) → TestReady old.text.now old.pos left t → Prints (length (encode_test t)) (text_test t) old new
+TestPrinted left old new = Printed encode_test valid_test text_test left old new
 
 -- two tests, one behind the other, in brackets with a word between them
 abbrev pub TestsPrinted : ℕ → List ℕ → Printer → Printer → Type 0
@@ -48,23 +50,19 @@ TestsPrinted left word old new =
 
 -- the statement, indented by d levels
 abbrev pub StmtPrinted : ℕ → ℕ → Printer → Printer → Type 0
-StmtPrinted left d old new = (s : Stmt) → StmtReady old.text.now old.pos left s → Prints (length (encode_stmt s)) (text_stmt d s) old new
+StmtPrinted left d old new = Printed encode_stmt valid_stmt (text_stmt d) left old new
 
 -- the statement on lines of its own
 abbrev pub BlockPrinted : ℕ → ℕ → Printer → Printer → Type 0
-BlockPrinted left d old new =
-    (s : Stmt) → StmtReady old.text.now old.pos left s → Prints (length (encode_stmt s)) (block d (text_stmt (deeper d) s)) old new
+BlockPrinted left d old new = Printed encode_stmt valid_stmt (λ s. block d (text_stmt (deeper d) s)) left old new
 
 -- the statement as the first of two
 abbrev pub FirstPrinted : ℕ → ℕ → Printer → Printer → Type 0
-FirstPrinted left d old new =
-    (s : Stmt) → StmtReady old.text.now old.pos left s →
-    Prints (length (encode_stmt s)) (first_of (is_seq s) d (text_stmt (deeper d) s) (text_stmt d s)) old new
+FirstPrinted left d old new = Printed encode_stmt valid_stmt (λ s. first_of (is_seq s) d (text_stmt (deeper d) s) (text_stmt d s)) left old new
 
 -- the statement as the second part of a branch
 abbrev pub ElsePrinted : ℕ → ℕ → Printer → Printer → Type 0
-ElsePrinted left d old new =
-    (s : Stmt) → StmtReady old.text.now old.pos left s → Prints (length (encode_stmt s)) (else_of (is_skip s) d (text_stmt (deeper d) s)) old new
+ElsePrinted left d old new = Printed encode_stmt valid_stmt (λ s. else_of (is_skip s) d (text_stmt (deeper d) s)) left old new
 
 -- a statement of one kind, of which what comes behind its number stands next
 

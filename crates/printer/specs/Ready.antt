@@ -1,5 +1,5 @@
 -- What stands at a position and is valid, so that it can be printed. Assumes nothing: these are definitions.
-use Rattle.std.specs.Prelude.{◌≡◌, ℕ, ◌≤◌, true, List, length}
+use Rattle.std.specs.Prelude.{◌≡◌, ℕ, ◌≤◌, Bool, true, List, length}
 use Rattle.program.specs.Syntax.{Expr, Test, Stmt}
 use Rattle.program.specs.Encoding.{encode_expr, encode_test, encode_stmt}
 use Rattle.program.specs.Validity.{valid_expr, valid_test, valid_stmt}
@@ -10,23 +10,21 @@ pub record Placed (text : List ℕ) (pos left : ℕ) (bs : List ℕ) : Type 0 wh
   pub stands : Stands text pos bs
   pub enough : length bs ≤ left
 
--- a valid expression of at most `left` bytes stands at pos
-pub record ExprReady (text : List ℕ) (pos left : ℕ) (e : Expr) : Type 0 where
+-- what so is encoded in at most `left` bytes stands at pos, and so is valid
+pub record Ready {A : Type 0} (encode : A → List ℕ) (is_valid : ℕ → ℕ → A → Bool) (text : List ℕ) (pos left : ℕ) (x : A) : Type 0 where
   pub variables : ℕ
   pub arrays : ℕ
-  pub placed : Placed text pos left (encode_expr e)
-  pub valid : valid_expr variables arrays e ≡ true
+  pub placed : Placed text pos left (encode x)
+  pub valid : is_valid variables arrays x ≡ true
+
+-- a valid expression of at most `left` bytes stands at pos
+abbrev pub ExprReady : List ℕ → ℕ → ℕ → Expr → Type 0
+ExprReady text pos left e = Ready encode_expr valid_expr text pos left e
 
 -- a valid test
-pub record TestReady (text : List ℕ) (pos left : ℕ) (t : Test) : Type 0 where
-  pub variables : ℕ
-  pub arrays : ℕ
-  pub placed : Placed text pos left (encode_test t)
-  pub valid : valid_test variables arrays t ≡ true
+abbrev pub TestReady : List ℕ → ℕ → ℕ → Test → Type 0
+TestReady text pos left t = Ready encode_test valid_test text pos left t
 
 -- a valid statement
-pub record StmtReady (text : List ℕ) (pos left : ℕ) (d : Stmt) : Type 0 where
-  pub variables : ℕ
-  pub arrays : ℕ
-  pub placed : Placed text pos left (encode_stmt d)
-  pub valid : valid_stmt variables arrays d ≡ true
+abbrev pub StmtReady : List ℕ → ℕ → ℕ → Stmt → Type 0
+StmtReady text pos left d = Ready encode_stmt valid_stmt text pos left d

@@ -5,7 +5,8 @@ ghost use Rattle.encoding.specs.Standing.{word_at as standing_word};
 use bytes_at::{byte_at, word_at};
 use std::alloc::{AllocError, Global};
 
-/// The bytes of a program, how many of them are behind, and what was printed so far.
+/// The bytes of a program, how many of them are behind, and what was printed so far. The methods that print a part are told
+/// how many bytes it may have at most: by that number their recursion ends, whatever the bytes are.
 #[derive(Drop)]
 pub struct Printer<'a> {
     pub text: &'a [u8],

@@ -3,10 +3,11 @@
 #![tactic(auto)]
 
 use anyhow::anyhow;
+use outcome::exit_code;
 use script::{ScriptError, hex_text, split_commands};
 use session::{Answer, Session};
 use std::process::ExitCode;
-use std::{env, fs};
+use std::{env, fs, io};
 
 fn show(rt: &HostRuntime, answer: &Answer) -> anyhow::Result<()> {
     let heap = rt.alloc();
@@ -14,8 +15,7 @@ fn show(rt: &HostRuntime, answer: &Answer) -> anyhow::Result<()> {
         let bytes = row.bytes(heap)?;
         rt.println(hex_text(heap, bytes.as_slice())?)?;
     }
-    let end = answer.end;
-    println!(rt; "end {end}")?;
+    println!(rt; "end {}", answer.end)?;
     Ok(())
 }
 
@@ -26,11 +26,10 @@ fn replay(rt: &HostRuntime, path: &str) -> anyhow::Result<()> {
         return Err(anyhow!(format!(in heap; "can't read {path}")?));
     };
     let commands = match split_commands(heap, file.as_slice()) {
-        Ok(commands) => commands,
-        Err(ScriptError::Damaged) => return Err(anyhow!(format!(in heap;
-            "{path} is damaged: it ends within a command"
-        )?)),
-        Err(ScriptError::NoMemory) => return Err(anyhow!("out of memory")),
+        Err(e @ ScriptError::Damaged) => {
+            return Err(anyhow!(format!(in heap; "{path} is {e}")?));
+        }
+        commands => commands?,
     };
     let mut session = Session::new(heap)?;
     for command in commands.iter() {
@@ -41,16 +40,11 @@ fn replay(rt: &HostRuntime, path: &str) -> anyhow::Result<()> {
 }
 
 fn run(rt: &HostRuntime) -> anyhow::Result<()> {
-    for path in env::args(rt)?.skip(1) {
-        replay(rt, path.as_str())?;
-    }
-    Ok(())
+    env::args(rt)?
+        .skip(1)
+        .try_for_each(|path| replay(rt, path.as_str()))
 }
 
-fn main(rt: HostRuntime) -> anyhow::Result<ExitCode> {
-    if let Err(e) = run(&rt) {
-        eprintln!(rt; "replay: {e}")?;
-        return Ok(ExitCode::FAILURE);
-    }
-    Ok(ExitCode::SUCCESS)
+fn main(rt: HostRuntime) -> io::Result<ExitCode> {
+    exit_code(&rt, "replay", run(&rt))
 }

@@ -7,7 +7,7 @@ use Rattle.encoding.proofs.Parts.{expr_within, expr_below, number_at, variable_a
 use Rattle.printer.specs.Text.{sign_text}
 use Rattle.printer.specs.Printing.{Prints, ExprPrinted}
 use Rattle.printer.proofs.Adding.{also, same_steps}
-use Rattle.printer.proofs.ReadyParts.{number_small, operands_ready, index_ready, expr_next}
+use Rattle.printer.proofs.ReadyParts.{number_small, operands_ready, index_ready, ready_next}
 use Rattle.printer.proofs.Expressions.{number_text, variable_text, binary_text, element_text}
 use Rattle.printer.proofs.Words.{byte_next, word_next}
 use Rattle.printer.proofs.write.Printer.+expr.Goals as goal
@@ -46,9 +46,9 @@ returns-in_ok-expr-in-2-2 t c =
     let b = c.byte-op.ensures.passed (omega (arith, l, h.long, a.pos)) in
     let two = operands_ready _ _ _ e ready h _ refl in
     let begun = also (also a b) c.in_ok-bracket-in-2.ensures in
-    let u = c.in_ok-expr-in-2.ensures h.a (expr_next begun two.0 (omega (arith, begun.pos))) in
+    let u = c.in_ok-expr-in-2.ensures h.a (ready_next begun two.0 (omega (arith, begun.pos))) in
     let half = also (also begun u) c.in_ok-put-in-2.ensures in
-    let v = c.in_ok-expr-in-2-2.ensures h.b (expr_next half two.1 (omega (arith, half.pos))) in
+    let v = c.in_ok-expr-in-2-2.ensures h.b (ready_next half two.1 (omega (arith, half.pos))) in
     same_steps (also (also half v) q) (omega (arith, h.long))
     (binary_text _ _ e h _ _ _ (c.sign.ensures ∙ ap (λ (op : Operator). sign_text (operator_code op)) c.from-in-2-2.ensures) (c.from-in-2.ensures ∙ byte_next a a.pos c.byte-op.ensures.value))) c.bracket-in-2.ensures
 
@@ -60,5 +60,5 @@ returns-in_ok-expr-in-3 t c =
     let a = c.byte.ensures.passed (omega (arith, l, h.long)) in
     let b = c.byte-r.ensures.passed (omega (arith, l, h.long, a.pos)) in
     let begun = also (also (also a b) c.in_ok-number-in-3.ensures) c.in_ok-put-in-3.ensures in
-    let u = c.in_ok-expr-in-3.ensures h.a (expr_next begun (index_ready _ _ _ e ready h _ refl) (omega (arith, begun.pos))) in
+    let u = c.in_ok-expr-in-3.ensures h.a (ready_next begun (index_ready _ _ _ e ready h _ refl) (omega (arith, begun.pos))) in
     same_steps (also (also begun u) q) (omega (arith, h.long)) (element_text _ _ e h _ _ (c.from-in-3.ensures ∙ byte_next a a.pos c.byte-r.ensures.value))) c.put-in-3-2.ensures

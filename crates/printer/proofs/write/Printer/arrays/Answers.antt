@@ -1,6 +1,5 @@
-use Rattle.std.proofs.Common.{◌≡◌, length, refl, ap, arith}
+use Rattle.std.proofs.Common.{refl}
 use Rattle.printer.specs.Text.{declared_arrays}
-use Rattle.std.proofs.lemmas.Result.{on_ok_weaker}
 use Rattle.printer.proofs.Adding.{also, same_steps, no_step}
 use Rattle.printer.proofs.Declarations.{array_more}
 use Rattle.printer.proofs.write.Printer.arrays.Goals as goal
@@ -13,8 +12,3 @@ pub loop-i-preserved : goal.loop-i-preserved
 loop-i-preserved c =
     same_steps (also (also (also (also c.loop-i.invariant c.in_ok-put.ensures) c.in_ok-number.ensures) c.in_ok-number-2.ensures) c.in_ok-put-2.ensures) refl
     (array_more _ c.loop-i.i _ _ c.separator.ensures refl)
-
-pub returns : goal.returns
-returns c =
-    let all : c.loop-i.i ≡ length c.args.lengths.now = omega arith in
-    on_ok_weaker _ (λ e. also (same_steps c.loop-i.invariant refl (ap (declared_arrays c.args.lengths.now) all)) e) c.end_line.ensures

@@ -1,6 +1,5 @@
-use Rattle.std.proofs.Common.{◌≡◌, refl, ap, arith}
+use Rattle.std.proofs.Common.{refl}
 use Rattle.printer.specs.Text.{declared_variables}
-use Rattle.std.proofs.lemmas.Result.{on_ok_weaker}
 use Rattle.printer.proofs.Adding.{also, same_steps, no_step}
 use Rattle.printer.proofs.Declarations.{variable_more}
 use Rattle.printer.proofs.write.Printer.variables.Goals as goal
@@ -11,8 +10,3 @@ loop-i-init c = no_step _
 
 pub loop-i-preserved : goal.loop-i-preserved
 loop-i-preserved c = same_steps (also (also c.loop-i.invariant c.in_ok-put.ensures) c.in_ok-number.ensures) refl (variable_more c.loop-i.i _ c.separator.ensures)
-
-pub returns : goal.returns
-returns c =
-    let all : c.loop-i.i ≡ c.args.count = omega arith in
-    on_ok_weaker _ (λ e. also (same_steps c.loop-i.invariant refl (ap declared_variables all)) e) c.end_line.ensures
