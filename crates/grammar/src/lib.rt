@@ -4,5 +4,7 @@
 
 mod memory;
 mod types;
+mod words;
 
 pub use types::{Expected, Kind, Operator, ParseError};
+pub use words::expected_text;

@@ -1,4 +1,4 @@
-// Want of memory, as a parser's error.
+// Want of memory, as a parser's error: a push gives back what it could not store, a copy of bytes does not.
 ghost use Rattle.std.specs.Prelude.{◌≡◌};
 ghost use Rattle.grammar.specs.declared.types.ParseError.TheVariants.{NoMemory};
 

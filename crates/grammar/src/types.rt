@@ -1,15 +1,15 @@
 // Terms, tests and operators, and why tokens are no program.
 
-#[derive(Clone, Copy)]
+#[derive(Clone, Copy, PartialEq, Eq, Debug)]
 pub enum Kind {
     Term,
     Test,
 }
 
-// Operators; an arithmetic one by its number in the encoding.
-#[derive(Clone, Copy)]
+// Operators: those of terms, and those that make tests.
+#[derive(Clone, Copy, PartialEq, Eq, Debug)]
 pub enum Operator {
-    Arithmetic(u8),
+    Arithmetic(program::Operator),
     Less,
     Equal,
     And,

@@ -1,97 +1,82 @@
 // Single tokens.
-ghost use Rattle.std.specs.Prelude.{◌≡◌, ◌+◌, ◌<◌, ◌≤◌, T, length, IfOk, OnSome};
+ghost use Rattle.std.specs.Prelude.{◌≡◌, ◌+◌, ◌<◌, ◌≤◌, T, length, OnOk, OnSome, vec_len};
+ghost use Rattle.parser.specs.Reading.{Skips};
 
+use crate::parser::Parser;
 use grammar::{Expected, ParseError};
 use lexer::{Key, Token};
 
-// A key's number.
-fn code(key: Key) -> u8 {
-    match key {
-        Key::Names => 0,
-        Key::Rows => 1,
-        Key::Is => 2,
-        Key::Takes => 3,
-        Key::To => 4,
-        Key::Check => 5,
-        Key::If => 6,
-        Key::Then => 7,
-        Key::Else => 8,
-        Key::End => 9,
-        Key::While => 10,
-        Key::Do => 11,
-        Key::Nothing => 12,
-        Key::Not => 13,
-        Key::And => 14,
-        Key::Or => 15,
-        Key::Plus => 16,
-        Key::Minus => 17,
-        Key::Times => 18,
-        Key::Over => 19,
-        Key::Percent => 20,
-        Key::Less => 21,
-        Key::Equals => 22,
-        Key::Open => 23,
-        Key::Close => 24,
-        Key::OpenIndex => 25,
-        Key::CloseIndex => 26,
-        Key::Comma => 27,
-        Key::Semicolon => 28,
+impl<'a> Parser<'a> {
+    // The next token, if one is left.
+    pub fn peek(&self) -> Option<Token>
+        ensures { OnSome result (self.now.at < length self.now.tokens.now) }
+    {
+        self.tokens.get(self.at).copied()
     }
-}
 
-// Whether a token is this key.
-fn token_is(token: Token, key: Key) -> bool {
-    match token {
-        Token::Word(_) => false,
-        Token::Number(_) => false,
-        Token::Key(other) => code(other) == code(key),
+    // Past the next token.
+    pub fn advance(&mut self)
+        requires { self.old.at < length self.old.tokens.now }
+        ensures on { Skips self.old self.new }
+        ensures past { self.new.at ≡ self.old.at + 1 }
+    {
+        self.at += 1;
     }
-}
 
-// Whether this key stands at a place.
-pub fn is_key(tokens: &[Token], at: usize, key: Key) -> bool
-    ensures within { T result → at < length tokens.now }
-{
-    if at >= tokens.len() {
-        return false;
+    // Whether this key stands behind the next token.
+    pub fn is_before(&self, key: Key) -> bool
+        ensures { T result → self.now.at + 1 < length self.now.tokens.now }
+    {
+        self.at < self.tokens.len() && self.tokens.get(self.at + 1) == Some(&Token::Key(key))
     }
-    token_is(tokens[at], key)
-}
 
-// The place behind this key, which must stand there.
-pub fn expect(tokens: &[Token], at: usize, key: Key, what: Expected) -> Result<usize, ParseError>
-    ensures within { IfOk result (λ end. (end ≡ at + 1) × (end ≤ length tokens.now)) }
-{
-    if !is_key(tokens, at, key) {
-        return Err(ParseError::Expected { at, what });
+    // Goes past this key, if it is next.
+    pub fn eat(&mut self, key: Key) -> bool
+        ensures on { Skips self.old self.new }
+        ensures past { T result → self.new.at ≡ self.old.at + 1 }
+    {
+        if self.peek() != Some(Token::Key(key)) {
+            return false;
+        }
+        self.advance();
+        true
     }
-    Ok(at + 1)
-}
 
-// The number at a place, if one stands there.
-pub fn number_at(tokens: &[Token], at: usize) -> Option<u64>
-    ensures within { OnSome result (at < length tokens.now) }
-{
-    if at >= tokens.len() {
-        return None;
+    // What should stand next and does not.
+    pub fn missing(&self, what: Expected) -> ParseError {
+        ParseError::Expected { at: self.at, what }
     }
-    match tokens[at] {
-        Token::Number(n) => Some(n),
-        Token::Word(_) => None,
-        Token::Key(_) => None,
-    }
-}
 
-// The word at a place, if one stands there.
-pub fn word_at(tokens: &[Token], at: usize) -> Option<usize>
-    ensures within { OnSome result (at < length tokens.now) }
-{
-    if at >= tokens.len() {
-        return None;
+    // Goes past this key, which must be next.
+    pub fn expect(&mut self, key: Key, what: Expected) -> Result<(), ParseError>
+        ensures { Skips self.old self.new }
+    {
+        if !self.eat(key) {
+            return Err(self.missing(what));
+        }
+        Ok(())
     }
-    match tokens[at] {
-        Token::Word(w) => Some(w),
-        Token::Number(_) => None,
-        Token::Key(_) => None,
+
+    // The number that must be next.
+    pub fn number(&mut self) -> Result<u64, ParseError>
+        ensures { Skips self.old self.new }
+    {
+        let Some(Token::Number(n)) = self.peek() else {
+            return Err(self.missing(Expected::Number));
+        };
+        self.advance();
+        Ok(n)
+    }
+
+    // The word that must be next; what is missing where none is.
+    pub fn word(&mut self, what: Expected) -> Result<usize, ParseError>
+        ensures on { Skips self.old self.new }
+        ensures past { OnOk result (self.new.at ≡ self.old.at + 1) }
+    {
+        let Some(Token::Word(word)) = self.peek() else {
+            return Err(self.missing(what));
+        };
+        self.advance();
+        Ok(word)
     }
 }

@@ -1,91 +1,107 @@
 // Declarations of variables and arrays.
-ghost use Rattle.std.specs.Prelude.{◌≡◌, ◌+◌, ◌<◌, ◌≤◌, length, vec_len, OnOk};
+ghost use Rattle.std.specs.Prelude.{◌≡◌, ◌+◌, ◌<◌, ◌≤◌, length, OnSome, vec_len};
+ghost use Rattle.parser.specs.Reading.{ReadsOn, Skips};
 
-use crate::cursor::{expect, is_key, number_at, word_at};
-use crate::lookup::find;
-use crate::types::Declared;
+use crate::parser::{Array, Parser};
 use grammar::{Expected, ParseError};
-use lexer::{Key, Token};
+use lexer::Key;
+use program::{ARRAYS, ELEMENTS, VARIABLES};
 
-const MOST_VARIABLES: usize = 64;
-
-const MOST_ARRAYS: usize = 16;
-
-const MOST_ELEMENTS: u64 = 65536;
-
-// The word at a place, which is not declared yet.
-fn new_word_at(tokens: &[Token], at: usize, declared: &Declared) -> Result<usize, ParseError>
-    ensures within { OnOk result (at < length tokens.now) }
-{
-    let Some(word) = word_at(tokens, at) else {
-        return Err(ParseError::Expected {
-            at,
-            what: Expected::Word,
-        });
-    };
-    if find(&declared.variables, word).is_some() || find(&declared.arrays, word).is_some() {
-        return Err(ParseError::Twice(at));
-    }
-    Ok(word)
+// What a declaration's words are.
+#[derive(Clone, Copy)]
+enum Sort {
+    Variable,
+    Array,
 }
 
-// One variable; the place behind it.
-fn variable_at(tokens: &[Token], at: usize, declared: &mut Declared) -> Result<usize, ParseError>
-    requires { vec_len declared.old.variables ≤ 64 }
-    ensures few { vec_len declared.new.variables ≤ 64 }
-{
-    let word = new_word_at(tokens, at, declared)?;
-    if declared.variables.len() >= MOST_VARIABLES {
-        return Err(ParseError::TooMany(at));
-    }
-    declared.variables.push(word)?;
-    Ok(at + 1)
-}
-
-// One array with its length; the place behind it.
-fn array_at(tokens: &[Token], at: usize, declared: &mut Declared) -> Result<usize, ParseError>
-    ensures same { vec_len declared.new.variables ≡ vec_len declared.old.variables }
-{
-    let word = new_word_at(tokens, at, declared)?;
-    if declared.arrays.len() >= MOST_ARRAYS {
-        return Err(ParseError::TooMany(at));
-    }
-    let inner = expect(tokens, at + 1, Key::OpenIndex, Expected::OpenIndex)?;
-    let Some(length) = number_at(tokens, inner) else {
-        return Err(ParseError::Expected {
-            at: inner,
-            what: Expected::Number,
-        });
-    };
-    if length < 1 || length > MOST_ELEMENTS {
-        return Err(ParseError::Length(inner));
-    }
-    let end = expect(tokens, inner + 1, Key::CloseIndex, Expected::CloseIndex)?;
-    declared.arrays.push(word)?;
-    declared.lengths.push(length)?;
-    Ok(end)
-}
-
-// The end of the declarations, which begin at the first token.
-pub fn declare(tokens: &[Token], declared: &mut Declared) -> Result<usize, ParseError>
-    requires { vec_len declared.old.variables ≤ 64 }
-    ensures few { vec_len declared.new.variables ≤ 64 }
-{
-    let mut at = 0;
-    let mut rows = false;
-    for _ in 0..tokens.len() {
-        if is_key(tokens, at, Key::Names) {
-            rows = false;
-        } else if is_key(tokens, at, Key::Rows) {
-            rows = true;
-        } else if at == 0 || !is_key(tokens, at, Key::Comma) {
-            return Ok(at);
+impl<'a> Parser<'a> {
+    // A word that is not declared yet.
+    fn new_word(&mut self) -> Result<usize, ParseError>
+        ensures { Skips self.old self.new }
+    {
+        let place = self.at;
+        let word = self.word(Expected::Word)?;
+        if self.variable(word).is_some() || self.array(word).is_some() {
+            return Err(ParseError::Twice(place));
         }
-        at = if rows {
-            array_at(tokens, at + 1, declared)?
-        } else {
-            variable_at(tokens, at + 1, declared)?
-        };
+        Ok(word)
     }
-    Ok(at)
+
+    // One variable.
+    fn declare_variable(&mut self) -> Result<(), ParseError>
+        ensures { ReadsOn self.old self.new }
+    {
+        let place = self.at;
+        let word = self.new_word()?;
+        if self.variables.len() as u64 >= VARIABLES {
+            return Err(ParseError::TooMany(place));
+        }
+        self.variables.push(word)?;
+        Ok(())
+    }
+
+    // One array with its length.
+    fn declare_array(&mut self) -> Result<(), ParseError>
+        ensures { ReadsOn self.old self.new }
+    {
+        let place = self.at;
+        let word = self.new_word()?;
+        if self.arrays.len() as u64 >= ARRAYS {
+            return Err(ParseError::TooMany(place));
+        }
+        self.expect(Key::OpenIndex, Expected::OpenIndex)?;
+        let inner = self.at;
+        let length = self.number()?;
+        if length < 1 || length > ELEMENTS {
+            return Err(ParseError::Length(inner));
+        }
+        self.expect(Key::CloseIndex, Expected::CloseIndex)?;
+        self.arrays.push(Array { word, length })?;
+        Ok(())
+    }
+
+    // One variable or array.
+    fn declare(&mut self, sort: Sort) -> Result<(), ParseError>
+        ensures { ReadsOn self.old self.new }
+    {
+        match sort {
+            Sort::Variable => self.declare_variable(),
+            Sort::Array => self.declare_array(),
+        }
+    }
+
+    // Variables or arrays between commas.
+    fn declare_all(&mut self, sort: Sort) -> Result<(), ParseError>
+        ensures { ReadsOn self.old self.new }
+    {
+        self.declare(sort)?;
+        while self.eat(Key::Comma) {
+            self.declare(sort)?;
+        }
+        Ok(())
+    }
+
+    // What the next words are declared as, if a declaration begins here.
+    fn declares(&mut self) -> Option<Sort>
+        ensures on { ReadsOn self.old self.new }
+        ensures past { OnSome result (self.old.at < self.new.at) }
+    {
+        if self.eat(Key::Names) {
+            Some(Sort::Variable)
+        } else if self.eat(Key::Rows) {
+            Some(Sort::Array)
+        } else {
+            None
+        }
+    }
+
+    // All declarations.
+    pub fn declarations(&mut self) -> Result<(), ParseError>
+        ensures { ReadsOn self.old self.new }
+    {
+        while let Some(sort) = self.declares() {
+            self.declare_all(sort)?;
+        }
+        Ok(())
+    }
 }

@@ -1,194 +1,142 @@
 // Terms and tests: operators by levels, each over the operands of the level below.
 ghost use Rattle.std.specs.Prelude.{◌≡◌, ◌+◌, ◌<◌, ◌≤◌, length, vec_len};
+ghost use Rattle.parser.specs.Reading.{ReadsOn};
 
-use crate::cursor::{expect, is_key, number_at, word_at};
-use crate::lookup::find;
-use crate::operator::{made_by, operator_at};
-use crate::types::{Read, Scope};
-use crate::write::{insert_operator, push_byte, push_number, push_pair};
+use crate::operator::made_by;
+use crate::parser::Parser;
+use crate::write::push_number;
 use grammar::{Expected, Kind, Operator, ParseError};
-use lexer::Key;
+use lexer::{Key, Token};
 
 // The levels of comparisons and disjunctions.
 const COMPARISON: usize = 3;
 
 const DISJUNCTION: usize = 5;
 
-// The end of what was read at a place, which must be of this kind.
-fn end_of(read: Read, kind: Kind, at: usize) -> Result<usize, ParseError> {
-    match kind {
-        Kind::Term => match read.kind {
-            Kind::Term => Ok(read.end),
-            Kind::Test => Err(ParseError::Expected {
-                at,
-                what: Expected::Term,
-            }),
-        },
-        Kind::Test => match read.kind {
-            Kind::Term => Err(ParseError::Expected {
-                at,
-                what: Expected::Test,
-            }),
-            Kind::Test => Ok(read.end),
-        },
+// What begins at a place must be of this kind.
+fn must_be(read: Kind, kind: Kind, at: usize) -> Result<(), ParseError> {
+    if read == kind {
+        return Ok(());
     }
-}
-
-// A number or a variable.
-fn simple(scope: &Scope, at: usize, out: &mut Vec<u8>) -> Result<Read, ParseError>
-    ensures { vec_len out.old ≤ vec_len out.new }
-{
-    if let Some(n) = number_at(scope.tokens, at) {
-        push_byte(out, 0)?;
-        push_number(out, n)?;
-        return Ok(Read {
-            kind: Kind::Term,
-            end: at + 1,
-        });
-    }
-    let Some(word) = word_at(scope.tokens, at) else {
-        return Err(ParseError::Expected {
-            at,
-            what: Expected::Term,
-        });
+    let what = match kind {
+        Kind::Term => Expected::Term,
+        Kind::Test => Expected::Test,
     };
-    let Some(x) = find(scope.variables, word) else {
-        return Err(ParseError::Undeclared(at));
-    };
-    push_pair(out, 1, x)?;
-    Ok(Read {
-        kind: Kind::Term,
-        end: at + 1,
-    })
+    Err(ParseError::Expected { at, what })
 }
 
-// An element of an array, whose word stands at a place and is followed by its index.
-#[cycle(element_join_at_level_at_operand_at)]
-fn element(scope: &Scope, at: usize, left: usize, out: &mut Vec<u8>) -> Result<Read, ParseError>
-    requires { at + 1 < length scope.now.tokens.now }
-    ensures { vec_len out.old ≤ vec_len out.new }
-{
-    let Some(word) = word_at(scope.tokens, at) else {
-        return Err(ParseError::Expected {
-            at,
-            what: Expected::Term,
-        });
-    };
-    let Some(r) = find(scope.arrays, word) else {
-        return Err(ParseError::Undeclared(at));
-    };
-    push_pair(out, 3, r)?;
-    let index = level_at(scope, at + 2, DISJUNCTION, left, out)?;
-    let behind = end_of(index, Kind::Term, at + 2)?;
-    let end = expect(scope.tokens, behind, Key::CloseIndex, Expected::CloseIndex)?;
-    Ok(Read {
-        kind: Kind::Term,
-        end,
-    })
-}
+impl<'a> Parser<'a> {
+    // A number or a variable.
+    fn simple(&mut self) -> Result<Kind, ParseError>
+        ensures { ReadsOn self.old self.new }
+    {
+        match self.peek() {
+            Some(Token::Number(n)) => {
+                self.advance();
+                self.program.push(0)?;
+                push_number(&mut self.program, n)?;
+            }
+            Some(Token::Word(word)) => {
+                let Some(x) = self.variable(word) else {
+                    return Err(ParseError::Undeclared(self.at));
+                };
+                self.advance();
+                self.program.extend_from_slice(&[1, x])?;
+            }
+            _ => return Err(self.missing(Expected::Term)),
+        }
+        Ok(Kind::Term)
+    }
 
-// What operators join: a number, a variable, an element, a negation, or anything in parentheses.
-#[cycle(element_join_at_level_at_operand_at)]
-fn operand_at(scope: &Scope, at: usize, left: usize, out: &mut Vec<u8>) -> Result<Read, ParseError>
-    ensures { vec_len out.old ≤ vec_len out.new }
-{
-    if left == 0 {
-        return Err(ParseError::TooDeep(at));
-    }
-    let below = left - 1;
-    if is_key(scope.tokens, at, Key::Open) {
-        let inner = level_at(scope, at + 1, DISJUNCTION, below, out)?;
-        let end = expect(scope.tokens, inner.end, Key::Close, Expected::Close)?;
-        return Ok(Read {
-            kind: inner.kind,
-            end,
-        });
-    }
-    if is_key(scope.tokens, at, Key::Not) {
-        push_byte(out, 2)?;
-        let inner = level_at(scope, at + 1, COMPARISON, below, out)?;
-        let end = end_of(inner, Kind::Test, at + 1)?;
-        return Ok(Read {
-            kind: Kind::Test,
-            end,
-        });
-    }
-    if at < scope.tokens.len() && is_key(scope.tokens, at + 1, Key::OpenIndex) {
-        return element(scope, at, below, out);
-    }
-    simple(scope, at, out)
-}
-
-// The right operand of an operator behind `read`, and then the operator before the left one, which stands from `start` on.
-#[cycle(element_join_at_level_at_operand_at)]
-fn join_at(
-    scope: &Scope,
-    read: Read,
-    operator: Operator,
-    start: usize,
-    level: usize,
-    left: usize,
-    out: &mut Vec<u8>,
-) -> Result<Read, ParseError>
-    requires { (start ≤ vec_len out.old) × ((0 < level) × (read.end < length scope.now.tokens.now)) }
-    ensures { vec_len out.old ≤ vec_len out.new }
-{
-    let right = level_at(scope, read.end + 1, level - 1, left, out)?;
-    let end = end_of(right, read.kind, read.end + 1)?;
-    insert_operator(out, start, operator)?;
-    Ok(Read {
-        kind: made_by(operator),
-        end,
-    })
-}
-
-// Operators of a level, grouped to the left, and their operands.
-#[cycle(element_join_at_level_at_operand_at)]
-pub fn level_at(
-    scope: &Scope,
-    at: usize,
-    level: usize,
-    left: usize,
-    out: &mut Vec<u8>,
-) -> Result<Read, ParseError>
-    ensures { vec_len out.old ≤ vec_len out.new }
-{
-    if level == 0 {
-        return operand_at(scope, at, left, out);
-    }
-    let start = out.len();
-    let mut read = level_at(scope, at, level - 1, left, out)?;
-    for _ in at..scope.tokens.len() {
-        let Some(operator) = operator_at(scope.tokens, read.end, level, read.kind) else {
-            return Ok(read);
+    // An element of an array, whose word is next and is followed by its index.
+    #[cycle(expression)]
+    fn element(&mut self, left: usize) -> Result<Kind, ParseError>
+        requires { self.old.at + 1 < length self.old.tokens.now }
+        ensures { ReadsOn self.old self.new }
+    {
+        let place = self.at;
+        let word = self.word(Expected::Term)?;
+        let Some(r) = self.array(word) else {
+            return Err(ParseError::Undeclared(place));
         };
-        read = join_at(scope, read, operator, start, level, left, out)?;
+        self.advance();
+        self.program.extend_from_slice(&[3, r])?;
+        let at = self.at;
+        let index = self.operators(DISJUNCTION, left)?;
+        must_be(index, Kind::Term, at)?;
+        self.expect(Key::CloseIndex, Expected::CloseIndex)?;
+        Ok(Kind::Term)
     }
-    Ok(read)
-}
 
-// A term; its end.
-pub fn term_at(
-    scope: &Scope,
-    at: usize,
-    left: usize,
-    out: &mut Vec<u8>,
-) -> Result<usize, ParseError>
-    ensures { vec_len out.old ≤ vec_len out.new }
-{
-    let read = level_at(scope, at, DISJUNCTION, left, out)?;
-    end_of(read, Kind::Term, at)
-}
+    // What operators join: a number, a variable, an element, a negation, or anything in parentheses.
+    #[cycle(expression)]
+    fn operand(&mut self, left: usize) -> Result<Kind, ParseError>
+        ensures { ReadsOn self.old self.new }
+    {
+        if left == 0 {
+            return Err(ParseError::TooDeep(self.at));
+        }
+        let below = left - 1;
+        if self.eat(Key::Open) {
+            let kind = self.operators(DISJUNCTION, below)?;
+            self.expect(Key::Close, Expected::Close)?;
+            return Ok(kind);
+        }
+        if self.eat(Key::Not) {
+            self.program.push(2)?;
+            let at = self.at;
+            let kind = self.operators(COMPARISON, below)?;
+            must_be(kind, Kind::Test, at)?;
+            return Ok(Kind::Test);
+        }
+        if self.is_before(Key::OpenIndex) {
+            return self.element(below);
+        }
+        self.simple()
+    }
 
-// A test; its end.
-pub fn test_at(
-    scope: &Scope,
-    at: usize,
-    left: usize,
-    out: &mut Vec<u8>,
-) -> Result<usize, ParseError>
-    ensures { vec_len out.old ≤ vec_len out.new }
-{
-    let read = level_at(scope, at, DISJUNCTION, left, out)?;
-    end_of(read, Kind::Test, at)
+    // The right operand of an operator, and then the operator before the left one, which stands from `start` on.
+    #[cycle(expression)]
+    fn join(
+        &mut self,
+        operator: Operator,
+        kind: Kind,
+        start: usize,
+        level: usize,
+        left: usize,
+    ) -> Result<Kind, ParseError>
+        requires { (start ≤ vec_len self.old.program) × (0 < level) }
+        ensures { ReadsOn self.old self.new }
+    {
+        let at = self.at;
+        let right = self.operators(level - 1, left)?;
+        must_be(right, kind, at)?;
+        self.write_operator(start, operator)?;
+        Ok(made_by(operator))
+    }
+
+    // Operators of a level, grouped to the left, and their operands.
+    #[cycle(expression)]
+    fn operators(&mut self, level: usize, left: usize) -> Result<Kind, ParseError>
+        ensures { ReadsOn self.old self.new }
+    {
+        if level == 0 {
+            return self.operand(left);
+        }
+        let start = self.program.len();
+        let mut kind = self.operators(level - 1, left)?;
+        while let Some(operator) = self.operator(level, kind) {
+            kind = self.join(operator, kind, start, level, left)?;
+        }
+        Ok(kind)
+    }
+
+    // A term or a test.
+    pub fn expression(&mut self, kind: Kind, left: usize) -> Result<(), ParseError>
+        ensures { ReadsOn self.old self.new }
+    {
+        let at = self.at;
+        let read = self.operators(DISJUNCTION, left)?;
+        must_be(read, kind, at)
+    }
 }

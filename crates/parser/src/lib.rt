@@ -5,15 +5,11 @@
 mod cursor;
 mod declaration;
 mod expression;
-mod lookup;
 mod operator;
+mod parser;
 mod statement;
-mod types;
 mod whole;
-mod words;
 mod write;
 
-pub use grammar::{Expected, ParseError};
-pub use types::Parsed;
-pub use whole::parse;
-pub use words::expected_text;
+pub use grammar::{Expected, ParseError, expected_text};
+pub use whole::{Parsed, parse};

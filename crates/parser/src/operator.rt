@@ -1,81 +1,48 @@
-// The operators, by levels: 1 products, 2 sums, 3 comparisons, 4 conjunctions, 5 disjunctions.
-ghost use Rattle.std.specs.Prelude.{◌<◌, length, OnSome};
+// The operators, by levels: 1 products, 2 sums, 3 comparisons, 4 conjunctions, 5 disjunctions. Levels are numbers, since the recursion counts them down.
+ghost use Rattle.std.specs.Prelude.{◌≡◌, ◌+◌, ◌<◌, ◌≤◌, length, OnSome, vec_len};
+ghost use Rattle.parser.specs.Reading.{ReadsOn};
 
-use crate::cursor::is_key;
+use crate::parser::Parser;
 use grammar::{Kind, Operator};
 use lexer::{Key, Token};
+use program::Operator as Arithmetic;
 
-fn product_at(tokens: &[Token], at: usize) -> Option<Operator>
-    ensures { OnSome result (at < length tokens.now) }
-{
-    if is_key(tokens, at, Key::Times) {
-        return Some(Operator::Arithmetic(2));
-    }
-    if is_key(tokens, at, Key::Over) {
-        return Some(Operator::Arithmetic(3));
-    }
-    if is_key(tokens, at, Key::Percent) {
-        return Some(Operator::Arithmetic(4));
-    }
-    None
-}
-
-fn sum_at(tokens: &[Token], at: usize) -> Option<Operator>
-    ensures { OnSome result (at < length tokens.now) }
-{
-    if is_key(tokens, at, Key::Plus) {
-        return Some(Operator::Arithmetic(0));
-    }
-    if is_key(tokens, at, Key::Minus) {
-        return Some(Operator::Arithmetic(1));
-    }
-    None
-}
-
-fn comparison_at(tokens: &[Token], at: usize) -> Option<Operator>
-    ensures { OnSome result (at < length tokens.now) }
-{
-    if is_key(tokens, at, Key::Less) {
-        return Some(Operator::Less);
-    }
-    if is_key(tokens, at, Key::Equals) {
-        return Some(Operator::Equal);
-    }
-    None
-}
-
-// An operator of a level that joins terms.
-fn term_operator_at(tokens: &[Token], at: usize, level: usize) -> Option<Operator>
-    ensures { OnSome result (at < length tokens.now) }
-{
-    match level {
-        1 => product_at(tokens, at),
-        2 => sum_at(tokens, at),
-        3 => comparison_at(tokens, at),
+// The operator that a key is.
+fn operator_of(key: Key) -> Option<Operator> {
+    match key {
+        Key::Times => Some(Operator::Arithmetic(Arithmetic::Product)),
+        Key::Over => Some(Operator::Arithmetic(Arithmetic::Quotient)),
+        Key::Percent => Some(Operator::Arithmetic(Arithmetic::Remainder)),
+        Key::Plus => Some(Operator::Arithmetic(Arithmetic::Sum)),
+        Key::Minus => Some(Operator::Arithmetic(Arithmetic::Difference)),
+        Key::Less => Some(Operator::Less),
+        Key::Equals => Some(Operator::Equal),
+        Key::And => Some(Operator::And),
+        Key::Or => Some(Operator::Or),
         _ => None,
     }
 }
 
-// An operator of a level that joins tests.
-fn test_operator_at(tokens: &[Token], at: usize, level: usize) -> Option<Operator>
-    ensures { OnSome result (at < length tokens.now) }
-{
-    if level == 4 && is_key(tokens, at, Key::And) {
-        return Some(Operator::And);
+// An operator's level.
+fn level_of(operator: Operator) -> usize {
+    match operator {
+        Operator::Arithmetic(Arithmetic::Product) => 1,
+        Operator::Arithmetic(Arithmetic::Quotient) => 1,
+        Operator::Arithmetic(Arithmetic::Remainder) => 1,
+        Operator::Arithmetic(Arithmetic::Sum) => 2,
+        Operator::Arithmetic(Arithmetic::Difference) => 2,
+        Operator::Less => 3,
+        Operator::Equal => 3,
+        Operator::And => 4,
+        Operator::Or => 5,
     }
-    if level == 5 && is_key(tokens, at, Key::Or) {
-        return Some(Operator::Or);
-    }
-    None
 }
 
-// The operator of a level at a place, if one stands there that joins such operands.
-pub fn operator_at(tokens: &[Token], at: usize, level: usize, kind: Kind) -> Option<Operator>
-    ensures { OnSome result (at < length tokens.now) }
-{
-    match kind {
-        Kind::Term => term_operator_at(tokens, at, level),
-        Kind::Test => test_operator_at(tokens, at, level),
+// What an operator joins.
+fn joined_by(operator: Operator) -> Kind {
+    match operator {
+        Operator::And | Operator::Or => Kind::Test,
+        _ => Kind::Term,
     }
 }
 
@@ -83,9 +50,24 @@ pub fn operator_at(tokens: &[Token], at: usize, level: usize, kind: Kind) -> Opt
 pub fn made_by(operator: Operator) -> Kind {
     match operator {
         Operator::Arithmetic(_) => Kind::Term,
-        Operator::Less => Kind::Test,
-        Operator::Equal => Kind::Test,
-        Operator::And => Kind::Test,
-        Operator::Or => Kind::Test,
+        _ => Kind::Test,
+    }
+}
+
+impl<'a> Parser<'a> {
+    // Goes past an operator of a level that joins such operands, if one is next.
+    pub fn operator(&mut self, level: usize, kind: Kind) -> Option<Operator>
+        ensures on { ReadsOn self.old self.new }
+        ensures past { OnSome result (self.new.at ≡ self.old.at + 1) }
+    {
+        let Some(Token::Key(key)) = self.peek() else {
+            return None;
+        };
+        let operator = operator_of(key)?;
+        if level_of(operator) != level || joined_by(operator) != kind {
+            return None;
+        }
+        self.advance();
+        Some(operator)
     }
 }

@@ -1,68 +1,55 @@
-// Pieces of the encoding, written behind what is there or before what was just read.
-ghost use Rattle.std.specs.Prelude.{◌≡◌, ◌+◌, ◌≤◌, vec_len};
+// Pieces of the encoding.
+ghost use Rattle.std.specs.Prelude.{◌≡◌, ◌≤◌, vec_len};
+ghost use Rattle.parser.specs.Reading.{ReadsOn};
 
-use crate::types::Draft;
-use grammar::{Operator, ParseError};
+use crate::parser::{Array, Parser};
+use grammar::Operator;
+use std::alloc::{AllocError, Global};
 
 // A number as eight bytes, the highest first.
-pub fn push_number(out: &mut Vec<u8>, n: u64) -> Result<(), ParseError>
+pub fn push_number(out: &mut Vec<u8>, n: u64) -> Result<(), AllocError>
     ensures { vec_len out.old ≤ vec_len out.new }
 {
-    out.extend_from_slice(&n.to_be_bytes())?;
-    Ok(())
+    out.extend_from_slice(&n.to_be_bytes())
 }
 
-// Two bytes.
-pub fn push_pair(out: &mut Vec<u8>, first: u8, second: u8) -> Result<(), ParseError>
-    ensures { vec_len out.old ≤ vec_len out.new }
-{
-    out.extend_from_slice(&[first, second])?;
-    Ok(())
-}
-
-// One byte.
-pub fn push_byte(out: &mut Vec<u8>, byte: u8) -> Result<(), ParseError>
-    ensures { vec_len out.old ≤ vec_len out.new }
-{
-    out.push(byte)?;
-    Ok(())
-}
-
-// One byte, before what stands from `start` on.
-pub fn insert_byte(out: &mut Vec<u8>, start: usize, byte: u8) -> Result<(), ParseError>
-    requires { start ≤ vec_len out.old }
-    ensures { vec_len out.old ≤ vec_len out.new }
-{
-    out.insert(start, byte)?;
-    Ok(())
-}
-
-// An operator, before its operands that stand from `start` on.
-pub fn insert_operator(
-    out: &mut Vec<u8>,
-    start: usize,
-    operator: Operator,
-) -> Result<(), ParseError>
-    requires { start ≤ vec_len out.old }
-    ensures { vec_len out.old ≤ vec_len out.new }
-{
-    match operator {
-        Operator::Arithmetic(op) => {
-            insert_byte(out, start, op)?;
-            insert_byte(out, start, 2)
-        }
-        Operator::Less => insert_byte(out, start, 0),
-        Operator::Equal => insert_byte(out, start, 1),
-        Operator::And => insert_byte(out, start, 3),
-        Operator::Or => insert_byte(out, start, 4),
+// The number of variables, the number of arrays and their lengths.
+pub fn header(heap: Global, variables: u8, arrays: &[Array]) -> Result<Vec<u8>, AllocError> {
+    let mut out = Vec::new(heap);
+    out.push(variables)?;
+    push_number(&mut out, arrays.len() as u64)?;
+    for array in arrays {
+        push_number(&mut out, array.length)?;
     }
+    Ok(out)
 }
 
-// The head of a numbered statement that begins at a place: its tag and its number.
-pub fn push_head(draft: &mut Draft, tag: u8, at: usize) -> Result<(), ParseError>
-    ensures { vec_len draft.old.program ≤ vec_len draft.new.program }
-{
-    draft.places.push(at)?;
-    push_byte(&mut draft.program, tag)?;
-    push_number(&mut draft.program, draft.places.len() as u64)
+impl<'a> Parser<'a> {
+    // The head of a numbered statement that begins at a place: its tag and its number.
+    pub fn write_head(&mut self, tag: u8, place: usize) -> Result<(), AllocError>
+        ensures { ReadsOn self.old self.new }
+    {
+        self.places.push(place)?;
+        self.program.push(tag)?;
+        let number = self.places.len() as u64;
+        push_number(&mut self.program, number)
+    }
+
+    // An operator, before its operands that stand from `start` on.
+    pub fn write_operator(&mut self, start: usize, operator: Operator) -> Result<(), AllocError>
+        requires { start ≤ vec_len self.old.program }
+        ensures { ReadsOn self.old self.new }
+    {
+        match operator {
+            Operator::Arithmetic(op) => {
+                self.program.insert(start, op.code())?;
+                self.program.insert(start, 2)?;
+            }
+            Operator::Less => self.program.insert(start, 0)?,
+            Operator::Equal => self.program.insert(start, 1)?,
+            Operator::And => self.program.insert(start, 3)?,
+            Operator::Or => self.program.insert(start, 4)?,
+        }
+        Ok(())
+    }
 }

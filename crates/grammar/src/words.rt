@@ -1,8 +1,9 @@
 // What is missing at a place, in words.
-ghost use Rattle.std.specs.Prelude.{◌≡◌};
-ghost use Rattle.parser.specs.Words.{expected_words};
+ghost use Rattle.std.specs.Prelude.{◌≡◌, Some};
+ghost use Rattle.grammar.specs.Words.{expected_words};
 
-use grammar::Expected;
+use crate::types::Expected;
+use std::fmt;
 
 /// What should stand at a place.
 pub fn expected_text(what: Expected) -> &'static str
@@ -24,5 +25,13 @@ pub fn expected_text(what: Expected) -> &'static str
         Expected::CloseIndex => "\"]\"",
         Expected::Close => "\")\"",
         Expected::EndOfText => "\";\" or the end of the text",
+    }
+}
+
+impl fmt::Display for Expected {
+    ghost output = { λ what. Some (expected_words what) };
+
+    fn fmt<W: fmt::Write>(&self, f: &mut fmt::Formatter<W>) -> fmt::Result {
+        f.write_str(expected_text(*self))
     }
 }
