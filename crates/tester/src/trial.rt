@@ -34,16 +34,6 @@ fn mark(report: &Report, outcome: &Outcome, met: &mut Vec<bool>) {
     }
 }
 
-fn count_true(flags: &[bool]) -> u64 {
-    let mut n: u64 = 0;
-    for flag in flags {
-        if *flag {
-            n = n.saturating_add(1);
-        }
-    }
-    n
-}
-
 // Runs the program so often, and says what its report lacks, if anything.
 pub fn try_program(
     heap: Global,
@@ -69,6 +59,7 @@ pub fn try_program(
         }
         mark(&report, &outcome, &mut met);
     }
-    counts.program(report.alarms.len() as u64, count_true(met.as_slice()));
+    let count = met.iter().filter(|flag| **flag).count();
+    counts.program(report.alarms.len() as u64, count as u64);
     Ok(None)
 }
