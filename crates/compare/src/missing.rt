@@ -5,6 +5,7 @@ ghost use Rattle.findings.specs.Told.{InRow};
 ghost use Rattle.compare.specs.Missing.{Decides, AlarmFound, Outside, Finds};
 
 use findings::Report;
+use program::Fault;
 use runner::Outcome;
 use session::Row;
 use std::fmt;
@@ -12,56 +13,45 @@ use std::fmt;
 // What a run shows that the report lacks.
 #[derive(Clone, Copy)]
 pub enum Missing {
-    // A fault of a kind at a statement that is no alarm.
-    NoAlarm(u64, u64),
+    // A fault at a statement that is no alarm.
+    NoAlarm { stmt: u64, fault: Fault },
     // A variable's value at the end that is not within its bounds.
-    NoEnd(usize, u64),
+    NoEnd { variable: usize, value: u64 },
 }
 
 fn is_alarm(row: Row, stmt: u64, kind: u64) -> bool
     ensures { Decides result (row ≡ Alarm stmt kind) }
 {
-    match row {
-        Row::Alarm { stmt: d, kind: k } => d == stmt && u64::from(k) == kind,
-        Row::Bounds { .. } => false,
-    }
+    matches!(row, Row::Alarm { stmt: d, kind: k } if d == stmt && u64::from(k) == kind)
 }
 
 // Where the fault stands among the alarms.
 pub fn find_alarm(alarms: &[Row], stmt: u64, kind: u64) -> Option<usize>
     ensures { AlarmFound alarms.now stmt kind result }
 {
-    for i in 0..alarms.len() {
-        if is_alarm(alarms[i], stmt, kind) {
-            return Some(i);
-        }
-    }
-    None
+    alarms.iter().position(|row| is_alarm(*row, stmt, kind))
 }
 
 fn lies_in(row: Option<Row>, value: u64) -> bool
     ensures { Decides result (InRow row value) }
 {
-    match row {
-        Some(Row::Bounds { lo, hi }) => lo <= value && value <= hi,
-        _ => false,
-    }
+    matches!(row, Some(Row::Bounds { lo, hi }) if (lo..=hi).contains(&value))
 }
 
 // A variable's value; 0 if there is no such variable.
 fn value_of(values: &[u64], x: usize) -> u64
     ensures { result ≡ slice_index values.now x }
 {
-    if x < values.len() { values[x] } else { 0 }
+    values.get(x).copied().unwrap_or(0)
 }
 
 // The first variable whose value does not lie within its bounds.
 fn outside(ends: &[Option<Row>], values: &[u64]) -> Option<usize>
     ensures { Outside ends.now values.now result }
 {
-    for i in 0..ends.len() {
-        if !lies_in(ends[i], value_of(values, i)) {
-            return Some(i);
+    for (x, end) in ends.iter().enumerate() {
+        if !lies_in(*end, value_of(values, x)) {
+            return Some(x);
         }
     }
     None
@@ -73,22 +63,26 @@ pub fn find_missing(report: &Report, outcome: &Outcome) -> Option<Missing>
 {
     match outcome {
         Outcome::OutOfRounds => None,
-        Outcome::Fault(stmt, kind) => match find_alarm(report.alarms.as_slice(), *stmt, *kind) {
+        &Outcome::Fault { stmt, fault } => match find_alarm(&report.alarms, stmt, fault.number()) {
             Some(_) => None,
-            None => Some(Missing::NoAlarm(*stmt, *kind)),
+            None => Some(Missing::NoAlarm { stmt, fault }),
         },
-        Outcome::Finished(state) => match outside(report.ends.as_slice(), state.values.as_slice()) {
-            Some(x) => Some(Missing::NoEnd(x, value_of(state.values.as_slice(), x))),
-            None => None,
-        },
+        Outcome::Finished(state) => {
+            outside(&report.ends, &state.values).map(|variable| Missing::NoEnd {
+                variable,
+                value: value_of(&state.values, variable),
+            })
+        }
     }
 }
 
 impl fmt::Display for Missing {
     fn fmt<W: fmt::Write>(&self, f: &mut fmt::Formatter<W>) -> fmt::Result {
         match *self {
-            Missing::NoAlarm(stmt, kind) => write!(f, "fault {kind} at statement {stmt}"),
-            Missing::NoEnd(variable, value) => write!(
+            Missing::NoAlarm { stmt, fault } => {
+                write!(f, "fault {} at statement {stmt}", fault.number())
+            }
+            Missing::NoEnd { variable, value } => write!(
                 f,
                 "{value} at the end of variable {variable}"
             ),

@@ -22,9 +22,7 @@ pub fn run_valid<'a>(
 {
     match run_program(heap, program.bytes(), inputs, rounds) {
         Ok(outcome) => Ok(outcome),
-        Err(error) => match error {
-            RunError::NoMemory => Err(AllocError),
-            RunError::NoProgram => unreachable(),
-        },
+        Err(RunError::NoMemory) => Err(AllocError),
+        Err(RunError::NoProgram) => unreachable(),
     }
 }

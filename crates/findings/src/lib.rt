@@ -2,7 +2,7 @@
 
 #![tactic(auto)]
 
-ghost use Rattle.std.specs.Prelude.{◌≡◌, ◌<◌, IfOk, vec_len, OnOk};
+ghost use Rattle.std.specs.Prelude.{◌≡◌, ◌<◌, IfOk, vec_len};
 ghost use Rattle.program.specs.Syntax.{Program};
 ghost use Rattle.session.specs.Sessions.{Holds};
 ghost use Rattle.valid.specs.Held.{held_program};
@@ -24,19 +24,7 @@ pub struct Report {
 fn first_row(answer: &Answer) -> Option<Row>
     ensures { result ≡ first_of answer.now.rows.items }
 {
-    if answer.rows.is_empty() {
-        None
-    } else {
-        Some(answer.rows[0])
-    }
-}
-
-// The session takes the program.
-fn load(heap: Global, session: &mut Session, program: &ValidProgram) -> Result<(), AllocError>
-    ensures { OnOk result ((p : Program) → Holds session.old p → Holds session.new (held_program program.now)) }
-{
-    let _loaded = session.tell(heap, program.bytes())?;
-    Ok(())
+    answer.rows.first().copied()
 }
 
 // Where a variable lies at the end.
@@ -65,7 +53,7 @@ pub fn report_on(heap: Global, program: &ValidProgram) -> Result<Report, AllocEr
     ensures rows { IfOk result (λ rep. vec_len rep.ends ≡ (held_program program.now).vars) }
 {
     let mut session = Session::new(heap)?;
-    load(heap, &mut session, program)?;
+    session.tell(heap, program.bytes())?;
     let told = session.alarms(heap)?;
     let ends = ends_of(heap, &mut session, program.variables())?;
     let Answer { rows: alarms, .. } = told;

@@ -1,5 +1,7 @@
 -- Elements of arrays, read and changed one by one, and inputs, read one by one. Assumes nothing: these are definitions.
-use Rattle.std.specs.Prelude.{◌≡◌, ℕ, Bool, true, cond, length, drop, nat_lt, slice_index, slice_set}
+use Rattle.std.specs.Prelude.{◌≡◌, ℕ, ⊤, Bool, true, false, cond, length, drop, nat_lt, slice_index, slice_set, Ok, Err, Result}
+use Rattle.program.specs.declared.fault.Fault.{Fault}
+use Rattle.program.specs.declared.fault.Fault.TheVariants.{Index}
 use Rattle.program.specs.Semantics.{State, nth_array, first_input, Evaluated, value, failed}
 
 -- the array has such an element
@@ -15,9 +17,9 @@ abbrev pub with_element : State → ℕ → ℕ → ℕ → State
 with_element s r i n = record { values = s.values; arrays = slice_set s.arrays r (slice_set (nth_array s.arrays r) i n); inputs = s.inputs }
 
 -- the element gets its value if there is one
-pub record Stored (s : State) (r i n : ℕ) (done : Bool) (s₁ : State) : Type 0 where
-  pub found : done ≡ has_element s r i
-  pub changed : done ≡ true → s₁ ≡ with_element s r i n
+abbrev pub Stored : State → ℕ → ℕ → ℕ → Result ⊤ Fault → State → Type 0
+Stored s r i n (Ok done) s₁ = (has_element s r i ≡ true) × (s₁ ≡ with_element s r i n)
+Stored s r i n (Err f) s₁ = (has_element s r i ≡ false) × (f ≡ Index)
 
 -- the state with one input less
 abbrev pub without_input : State → State

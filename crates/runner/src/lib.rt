@@ -3,6 +3,7 @@
 #![tactic(auto)]
 
 mod condition;
+mod errors;
 mod expression;
 mod memory;
 mod run;

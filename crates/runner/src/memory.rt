@@ -5,13 +5,14 @@ ghost use Rattle.runner.specs.Of.{as_state};
 ghost use Rattle.runner.specs.Changes.{element_in, Stored, ReadInput};
 ghost use Rattle.runner.specs.Found.{as_evaluated};
 
-use crate::types::{NO_ELEMENT, State};
+use crate::types::State;
+use program::Fault;
 
 // An input if it is from `low` to `high`, and `low` otherwise.
 fn accepted(next: u64, low: u64, high: u64) -> u64
     ensures { result ≡ (if nat_le low next && nat_le next high then next else low) }
 {
-    if low <= next && next <= high {
+    if (low..=high).contains(&next) {
         next
     } else {
         low
@@ -23,60 +24,43 @@ impl State {
     pub(crate) fn variable(&self, x: usize) -> u64
         ensures { (ins : List ℕ) → result ≡ slice_index (as_state ins self.now).values x }
     {
-        if x < self.values.len() {
-            self.values[x]
-        } else {
-            0
-        }
+        self.values.get(x).copied().unwrap_or(0)
     }
 
-    // An element's value, or the kind of the fault that there is none.
-    pub(crate) fn element(&self, r: usize, i: u64) -> Result<u64, u64>
+    // An element's value, or the fault that there is none.
+    pub(crate) fn element(&self, r: usize, i: u64) -> Result<u64, Fault>
         ensures { (ins : List ℕ) → as_evaluated result ≡ element_in (as_state ins self.now) r i }
     {
-        if r >= self.arrays.len() {
-            return Err(NO_ELEMENT);
-        }
-        let row = &self.arrays[r];
-        if i < row.len() as u64 {
-            Ok(row[i as usize])
-        } else {
-            Err(NO_ELEMENT)
-        }
+        let row = self.arrays.get(r).ok_or(Fault::Index)?;
+        row.get(i as usize).copied().ok_or(Fault::Index)
     }
 
     // A variable gets a value.
     pub(crate) fn assign(&mut self, x: usize, n: u64)
         ensures { (ins : List ℕ) → as_state ins self.new ≡ with_value (as_state ins self.old) x n }
     {
-        if x < self.values.len() {
-            self.values[x] = n;
+        if let Some(value) = self.values.get_mut(x) {
+            *value = n;
         }
     }
 
-    // An element gets a value, if there is one.
-    pub(crate) fn store(&mut self, r: usize, i: u64, n: u64) -> bool
+    // An element gets a value, or there is none.
+    pub(crate) fn store(&mut self, r: usize, i: u64, n: u64) -> Result<(), Fault>
         ensures { (ins : List ℕ) → Stored (as_state ins self.old) r i n result (as_state ins self.new) }
     {
-        if r >= self.arrays.len() {
-            return false;
-        }
-        let row = &mut self.arrays[r];
-        if i >= row.len() as u64 {
-            return false;
-        }
-        row[i as usize] = n;
-        true
+        let row = self.arrays.get_mut(r).ok_or(Fault::Index)?;
+        let element = row.get_mut(i as usize).ok_or(Fault::Index)?;
+        *element = n;
+        Ok(())
     }
 
     // The next input is read; one that is missing counts as 0.
     fn next_input(&mut self, inputs: &[u64]) -> u64
         ensures { ReadInput (as_state inputs.now self.old) result (as_state inputs.now self.new) }
     {
-        if self.read >= inputs.len() {
+        let Some(&next) = inputs.get(self.read) else {
             return 0;
-        }
-        let next = inputs[self.read];
+        };
         self.read += 1;
         next
     }

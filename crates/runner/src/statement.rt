@@ -1,37 +1,13 @@
 // Statements run over their bytes.
-ghost use Rattle.runner.specs.Running.{ValueAt, VerdictAt, RunsStmt, RunsAssign, RunsStore, RunsInput, RunsCheck, RunsBranch, RunsLoop};
+ghost use Rattle.runner.specs.Running.{RunsStmt, RunsAssign, RunsStore, RunsInput, RunsCheck, RunsBranch, RunsLoop};
 
 use crate::condition::{pair_at, test_at};
+use crate::errors::at_stmt;
 use crate::expression::eval_at;
 use crate::skip::skip_stmt;
-use crate::types::{FAILED_CHECK, NO_ELEMENT, State, Stop, Task, Value, Verdict};
+use crate::types::{State, Stop, Task};
 use bytes_at::{byte_at, word_at};
-
-// The value of an expression of the statement `number`, or its fault there.
-fn value_at(task: &Task, number: u64, pos: usize, left: usize, state: &State) -> Result<Value, Stop>
-    ensures { ValueAt task.now state.now number pos left result }
-{
-    match eval_at(task.text, pos, left, state) {
-        Ok(value) => Ok(value),
-        Err(kind) => Err(Stop::Fault(number, kind)),
-    }
-}
-
-// Whether a test of the statement `number` holds, or its fault there.
-fn verdict_at(
-    task: &Task,
-    number: u64,
-    pos: usize,
-    left: usize,
-    state: &State,
-) -> Result<Verdict, Stop>
-    ensures { VerdictAt task.now state.now number pos left result }
-{
-    match test_at(task.text, pos, left, state) {
-        Ok(verdict) => Ok(verdict),
-        Err(kind) => Err(Stop::Fault(number, kind)),
-    }
-}
+use program::Fault;
 
 // An assignment, behind its number.
 fn assign_at(
@@ -43,7 +19,10 @@ fn assign_at(
 ) -> Result<usize, Stop>
     ensures { RunsAssign task.now state.old state.new number pos left result }
 {
-    let found = value_at(task, number, pos.saturating_add(1), left, state)?;
+    let found = at_stmt(
+        number,
+        eval_at(task.text, pos.saturating_add(1), left, state),
+    )?;
     state.assign(byte_at(task.text, pos) as usize, found.value);
     Ok(found.end)
 }
@@ -58,14 +37,17 @@ fn store_at(
 ) -> Result<usize, Stop>
     ensures { RunsStore task.now state.old state.new number pos left result }
 {
-    let pair = match pair_at(task.text, pos.saturating_add(1), left, state) {
-        Ok(pair) => pair,
-        Err(kind) => return Err(Stop::Fault(number, kind)),
-    };
-    if !state.store(byte_at(task.text, pos) as usize, pair.first, pair.second) {
-        return Err(Stop::Fault(number, NO_ELEMENT));
+    let pair = at_stmt(
+        number,
+        pair_at(task.text, pos.saturating_add(1), left, state),
+    )?;
+    match state.store(byte_at(task.text, pos) as usize, pair.first, pair.second) {
+        Ok(()) => Ok(pair.end),
+        Err(fault) => Err(Stop::Fault {
+            stmt: number,
+            fault,
+        }),
     }
-    Ok(pair.end)
 }
 
 // An input, behind its number: its end.
@@ -82,11 +64,14 @@ fn input_at(task: &Task, pos: usize, state: &mut State) -> usize
 fn check_at(task: &Task, number: u64, pos: usize, left: usize, state: &State) -> Result<usize, Stop>
     ensures { RunsCheck task.now state.now number pos left result }
 {
-    let test = verdict_at(task, number, pos, left, state)?;
+    let test = at_stmt(number, test_at(task.text, pos, left, state))?;
     if test.holds {
         Ok(test.end)
     } else {
-        Err(Stop::Fault(number, FAILED_CHECK))
+        Err(Stop::Fault {
+            stmt: number,
+            fault: Fault::Check,
+        })
     }
 }
 
@@ -101,7 +86,7 @@ fn branch_at(
 ) -> Result<usize, Stop>
     ensures { RunsBranch task.now state.old state.new number pos left result }
 {
-    let test = verdict_at(task, number, pos, left, state)?;
+    let test = at_stmt(number, test_at(task.text, pos, left, state))?;
     if test.holds {
         let second = run_at(task, test.end, left, state)?;
         return Ok(skip_stmt(task.text, second, left));
@@ -121,14 +106,12 @@ fn loop_at(
 ) -> Result<usize, Stop>
     ensures { RunsLoop task.now state.old state.new number pos left result }
 {
-    let mut rounds = task.rounds;
-    while rounds > 0 {
-        let test = verdict_at(task, number, pos, left, state)?;
+    for _ in 0..task.rounds {
+        let test = at_stmt(number, test_at(task.text, pos, left, state))?;
         if !test.holds {
             return Ok(skip_stmt(task.text, test.end, left));
         }
         let _ = run_at(task, test.end, left, state)?;
-        rounds -= 1;
     }
     Err(Stop::OutOfRounds)
 }
@@ -139,7 +122,7 @@ pub fn run_at(task: &Task, pos: usize, left: usize, state: &mut State) -> Result
     ensures { RunsStmt task.now state.old state.new pos left result }
 {
     if left == 0 {
-        return Ok(pos);
+        return Err(Stop::NoProgram);
     }
     let number = word_at(task.text, pos.saturating_add(1));
     let next = pos.saturating_add(9);
@@ -155,6 +138,6 @@ pub fn run_at(task: &Task, pos: usize, left: usize, state: &mut State) -> Result
         }
         6 => branch_at(task, number, next, left - 1, state),
         7 => loop_at(task, number, next, left - 1, state),
-        _ => Ok(pos),
+        _ => Err(Stop::NoProgram),
     }
 }

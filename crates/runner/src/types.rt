@@ -1,13 +1,6 @@
 // What a running program holds, and how its run ends.
 
-// The kinds of faults: a number below 0 or of 2^32 and more, a quotient or remainder by 0, no such element, a check that fails.
-pub const NO_NUMBER: u64 = 1;
-
-pub const NO_DIVISOR: u64 = 2;
-
-pub const NO_ELEMENT: u64 = 3;
-
-pub const FAILED_CHECK: u64 = 4;
+use program::Fault;
 
 // The variables' values, the arrays' elements, and how many inputs have been read.
 #[derive(Drop)]
@@ -25,11 +18,19 @@ pub struct Task<'a> {
     pub rounds: u64,
 }
 
-// Why a run stops before its end: a fault of a kind at a statement, or no more rounds.
+// Why an expression or a test comes to nothing: a fault, or bytes that are none.
+#[derive(Clone, Copy)]
+pub enum EvalError {
+    Fault(Fault),
+    NoProgram,
+}
+
+// Why a run stops before its end: a fault at a statement, no more rounds, or bytes that are no statement.
 #[derive(Clone, Copy)]
 pub enum Stop {
-    Fault(u64, u64),
+    Fault { stmt: u64, fault: Fault },
     OutOfRounds,
+    NoProgram,
 }
 
 // An expression's value, and where the expression ends.
@@ -54,11 +55,11 @@ pub struct Pair {
     pub end: usize,
 }
 
-// How a program's run went: to its end, in a state; to a fault of a kind at a statement; or it used up its rounds.
+// How a program's run went: to its end, in a state; to a fault at a statement; or it used up its rounds.
 #[derive(Drop)]
 pub enum Outcome {
     Finished(State),
-    Fault(u64, u64),
+    Fault { stmt: u64, fault: Fault },
     OutOfRounds,
 }
 

@@ -30,7 +30,7 @@ impl Counts {
     pub fn run(&mut self, outcome: &Outcome) {
         self.runs = self.runs.saturating_add(1);
         match outcome {
-            Outcome::Fault(_, _) => self.faults = self.faults.saturating_add(1),
+            Outcome::Fault { .. } => self.faults = self.faults.saturating_add(1),
             Outcome::Finished(_) => self.ends = self.ends.saturating_add(1),
             Outcome::OutOfRounds => self.out_of_rounds = self.out_of_rounds.saturating_add(1),
         }

@@ -25,8 +25,8 @@ pub struct Failure {
 
 // Marks the alarm that the run met, if it met one.
 fn mark(report: &Report, outcome: &Outcome, met: &mut Vec<bool>) {
-    if let Outcome::Fault(stmt, kind) = outcome {
-        if let Some(i) = find_alarm(report.alarms.as_slice(), *stmt, *kind) {
+    if let Outcome::Fault { stmt, fault } = outcome {
+        if let Some(i) = find_alarm(report.alarms.as_slice(), *stmt, fault.number()) {
             if i < met.len() {
                 met[i] = true;
             }

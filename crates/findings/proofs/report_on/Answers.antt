@@ -2,13 +2,13 @@ use Rattle.std.proofs.Common.{ℕ, vec_items, ◌∙◌, subst}
 use Rattle.program.specs.Command.{empty_program}
 use Rattle.valid.specs.Held.{held_program}
 use Rattle.findings.specs.Ends.{AllEnds}
-use Rattle.findings.proofs.Shows.{alarms_stand, tells_all}
+use Rattle.findings.proofs.Shows.{load_stands, alarms_stand, tells_all}
 use Rattle.findings.proofs.report_on.Goals as goal
 
 pub returns : goal.returns
 returns c =
     let p = held_program c.args.program.now in
-    let loaded = c.in_ok-load.ensures empty_program c.in_ok-session.ensures in
+    let loaded = load_stands _ _ _ _ _ empty_program c.bytes.ensures c.args.program.now.loads.1 (c.in_ok-tell.ensures.answers empty_program c.in_ok-session.ensures) in
     let stays = alarms_stand _ _ _ p (c.in_ok-told.ensures.answers p loaded) in
     let ends = c.in_ok-ends.ensures p stays c.variables.ensures in
     record {

@@ -1,14 +1,13 @@
-use Rattle.std.proofs.Common.{◌∙◌, arith, below_more}
-use Rattle.std.proofs.lemmas.List.{get_or_default}
-use Rattle.compare.proofs.Rows.{not_has}
+use Rattle.std.proofs.Common.{◌≡◌, rules}
+use borrow.Author.Tests.{tests}
+use Rattle.std.proofs.lemmas.Iterator.{IsFirst-from_position, YieldsList-from_slice}
+use Rattle.session.specs.declared.rows.Row.{Row}
+use Rattle.session.specs.declared.rows.Row.TheVariants.{Alarm}
+use Rattle.compare.proofs.Rows.{alarm_found}
 use Rattle.compare.proofs.missing.find_alarm.Goals as goal
 
-pub loop-i-preserved : goal.loop-i-preserved
-loop-i-preserved c = below_more _ _ c.loop-i.invariant (λ e g. c.if-is_alarm.ensures (get_or_default c.args.alarms.now c.loop-i.i _ e c.loop-i-test.true ∙ g))
-
-pub returns-then-is_alarm : goal.returns-then-is_alarm
-returns-then-is_alarm c =
-    (c.loop-i-test.true, λ e. get_or_default c.args.alarms.now c.loop-i.i e _ c.loop-i-test.true ∙ c.if-is_alarm.ensures)
-
 pub returns : goal.returns
-returns c = not_has c.args.alarms.now _ (λ k l. c.loop-i.invariant k (omega (arith, c.loop-i-test.false)))
+returns c =
+    alarm_found c.args.alarms.now _ _ _
+    (IsFirst-from_position _ _ c.position.result (λ (x : Row). x ≡ Alarm c.args.stmt c.args.kind) (λ (x : Row). x ≡ Alarm c.args.stmt c.args.kind → ⊥)
+    c.position.ensures.ran (YieldsList-from_slice c.args.alarms.now cc) (λ x q k. search (rules, tests)) (λ x q k. search (rules, tests)))

@@ -3,5 +3,5 @@ use Rattle.findings.specs.Told.{InRow}
 use Rattle.compare.proofs.missing.outside.Given as goal
 
 -- each variable so far lies within its bounds
-abbrev pub invariant-loop-i : goal.invariant-loop-i
-invariant-loop-i l = (k : ℕ) → k < l.i → InRow (get_or l.ends k None) (get_or l.values k 0)
+abbrev pub invariant-loop-x : goal.invariant-loop-x
+invariant-loop-x l = (k : ℕ) → k < l.x → InRow (get_or l.ends k None) (get_or l.values k 0)

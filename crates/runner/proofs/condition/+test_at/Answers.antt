@@ -1,5 +1,6 @@
-use Rattle.std.proofs.Common.{◌≡◌, ◌+◌, sym, ◌∙◌, arith}
+use Rattle.std.proofs.Common.{◌≡◌, ◌+◌, Bool, sym, ap, ◌∙◌, arith}
 use Rattle.std.proofs.lemmas.Result.{err_from_is_err_and}
+use Rattle.program.specs.Semantics.{value, truth}
 use Rattle.encoding.proofs.Lengths.{test_long}
 use Rattle.encoding.proofs.Parts.{test_within, test_below, less_at, equal_at, not_at, and_at, or_at}
 use Rattle.runner.proofs.ReadyParts.{less_ready, equal_ready, inner_ready, and_ready, or_ready, test_moved}
@@ -14,53 +15,53 @@ returns-in_default t c ins x ready = absurd (omega (arith, test_below _ _ x read
 
 -- comparisons
 
-pub returns-in_err-pair-in-0 : goal.returns-in_err-pair-in-0
-returns-in_err-pair-in-0 t c ins x ready =
+pub returns-in_err-pair_at-in-0 : goal.returns-in_err-pair_at-in-0
+returns-in_err-pair_at-in-0 t c ins x ready =
     let h = less_at _ _ x ready.placed.stands (sym c.byte_at.ensures ∙ c.in-0.is) in
     let next : c.saturating_add-next.result ≡ c.args.pos + 1 = omega (arith, test_within _ _ x ready.placed.stands, h.long, c.saturating_add-next.ensures) in
     let two = less_ready _ _ _ x ready h _ next in
     let p = err_from_is_err_and c.from_residual.result c.from_residual.ensures.1 in
-    rw (p.1, p.2) (less_fails _ _ _ x h _ (c.in_err-pair-in-0.ensures ins h.a h.b two.0 two.1))
+    rw (p.1, p.2) (less_fails _ _ _ x h _ (c.in_err-pair_at-in-0.ensures ins h.a h.b two.0 two.1))
 
-pub returns-in_ok-pair-in-0 : goal.returns-in_ok-pair-in-0
-returns-in_ok-pair-in-0 t c ins x ready =
+pub returns-in_ok-pair_at-in-0 : goal.returns-in_ok-pair_at-in-0
+returns-in_ok-pair_at-in-0 t c ins x ready =
     let h = less_at _ _ x ready.placed.stands (sym c.byte_at.ensures ∙ c.in-0.is) in
     let next : c.saturating_add-next.result ≡ c.args.pos + 1 = omega (arith, test_within _ _ x ready.placed.stands, h.long, c.saturating_add-next.ensures) in
     let two = less_ready _ _ _ x ready h _ next in
-    let v = c.in_ok-pair-in-0.ensures ins h.a h.b two.0 two.1 in
-    record { is = less_holds _ _ _ x h _ _ v.first_is v.second_is; end = omega (arith, v.end, next, h.long) }
+    let v = c.in_ok-pair_at-in-0.ensures ins h.a h.b two.0 two.1 in
+    record { is = less_holds _ _ _ x h _ _ v.first_is v.second_is ∙ ap (λ (b : Bool). value (truth b)) (sym c.less.ensures.holds); end = omega (arith, c.less.ensures.end, v.end, next, h.long) }
 
-pub returns-in_err-pair-in-1 : goal.returns-in_err-pair-in-1
-returns-in_err-pair-in-1 t c ins x ready =
+pub returns-in_err-pair_at-in-1 : goal.returns-in_err-pair_at-in-1
+returns-in_err-pair_at-in-1 t c ins x ready =
     let h = equal_at _ _ x ready.placed.stands (sym c.byte_at.ensures ∙ c.in-1.is) in
     let next : c.saturating_add-next.result ≡ c.args.pos + 1 = omega (arith, test_within _ _ x ready.placed.stands, h.long, c.saturating_add-next.ensures) in
     let two = equal_ready _ _ _ x ready h _ next in
-    let p = err_from_is_err_and c.from_residual-in_err-pair-in-1.result c.from_residual-in_err-pair-in-1.ensures.1 in
-    rw (p.1, p.2) (equal_fails _ _ _ x h _ (c.in_err-pair-in-1.ensures ins h.a h.b two.0 two.1))
+    let p = err_from_is_err_and c.from_residual-in_err-pair_at-in-1.result c.from_residual-in_err-pair_at-in-1.ensures.1 in
+    rw (p.1, p.2) (equal_fails _ _ _ x h _ (c.in_err-pair_at-in-1.ensures ins h.a h.b two.0 two.1))
 
-pub returns-in_ok-pair-in-1 : goal.returns-in_ok-pair-in-1
-returns-in_ok-pair-in-1 t c ins x ready =
+pub returns-in_ok-pair_at-in-1 : goal.returns-in_ok-pair_at-in-1
+returns-in_ok-pair_at-in-1 t c ins x ready =
     let h = equal_at _ _ x ready.placed.stands (sym c.byte_at.ensures ∙ c.in-1.is) in
     let next : c.saturating_add-next.result ≡ c.args.pos + 1 = omega (arith, test_within _ _ x ready.placed.stands, h.long, c.saturating_add-next.ensures) in
     let two = equal_ready _ _ _ x ready h _ next in
-    let v = c.in_ok-pair-in-1.ensures ins h.a h.b two.0 two.1 in
-    record { is = equal_holds _ _ _ x h _ _ v.first_is v.second_is; end = omega (arith, v.end, next, h.long) }
+    let v = c.in_ok-pair_at-in-1.ensures ins h.a h.b two.0 two.1 in
+    record { is = equal_holds _ _ _ x h _ _ v.first_is v.second_is ∙ ap (λ (b : Bool). value (truth b)) (sym c.equal.ensures.holds); end = omega (arith, c.equal.ensures.end, v.end, next, h.long) }
 
 -- not
 
-pub returns-in_err-inner-in-2 : goal.returns-in_err-inner-in-2
-returns-in_err-inner-in-2 t c ins x ready =
+pub returns-in_err-test_at-in-2 : goal.returns-in_err-test_at-in-2
+returns-in_err-test_at-in-2 t c ins x ready =
     let h = not_at _ _ x ready.placed.stands (sym c.byte_at.ensures ∙ c.in-2.is) in
     let next : c.saturating_add-next.result ≡ c.args.pos + 1 = omega (arith, test_within _ _ x ready.placed.stands, h.long, c.saturating_add-next.ensures) in
-    let p = err_from_is_err_and c.from_residual-in_err-inner-in-2.result c.from_residual-in_err-inner-in-2.ensures.1 in
-    rw (p.1, p.2) (not_fails _ _ _ x h _ (c.in_err-inner-in-2.ensures ins h.t (inner_ready _ _ _ x ready h _ next)))
+    let p = err_from_is_err_and c.from_residual-in_err-test_at-in-2.result c.from_residual-in_err-test_at-in-2.ensures.1 in
+    rw (p.1, p.2) (not_fails _ _ _ x h _ (c.in_err-test_at-in-2.ensures ins h.t (inner_ready _ _ _ x ready h _ next)))
 
-pub returns-in_ok-inner-in-2 : goal.returns-in_ok-inner-in-2
-returns-in_ok-inner-in-2 t c ins x ready =
+pub returns-in_ok-test_at-in-2 : goal.returns-in_ok-test_at-in-2
+returns-in_ok-test_at-in-2 t c ins x ready =
     let h = not_at _ _ x ready.placed.stands (sym c.byte_at.ensures ∙ c.in-2.is) in
     let next : c.saturating_add-next.result ≡ c.args.pos + 1 = omega (arith, test_within _ _ x ready.placed.stands, h.long, c.saturating_add-next.ensures) in
-    let v = c.in_ok-inner-in-2.ensures ins h.t (inner_ready _ _ _ x ready h _ next) in
-    record { is = not_holds _ _ _ x h _ v.is; end = omega (arith, v.end, next, h.long) }
+    let v = c.in_ok-test_at-in-2.ensures ins h.t (inner_ready _ _ _ x ready h _ next) in
+    record { is = not_holds _ _ _ x h _ v.is ∙ ap (λ (b : Bool). value (truth b)) (sym c.negated.ensures.holds); end = omega (arith, c.negated.ensures.end, v.end, next, h.long) }
 
 -- and
 
@@ -87,8 +88,8 @@ returns-else-first t c ins x ready =
     let next : c.saturating_add-next.result ≡ c.args.pos + 1 = omega (arith, test_within _ _ x ready.placed.stands, h.long, c.saturating_add-next.ensures) in
     let two = and_ready _ _ _ x ready h _ next in
     let v = c.in_ok-first-in-3.ensures ins h.t two.0 in
-    let u = c.skip_test.ensures h.u (test_moved _ _ _ _ two.1 _ v.end).placed in
-    record { is = and_stops _ _ _ x h _ c.if-first.false v.is; end = omega (arith, u, v.end, next, h.long) }
+    let u = c.decided.ensures.end h.u (test_moved _ _ _ _ two.1 _ v.end).placed in
+    record { is = and_stops _ _ _ x h _ c.if-first.false v.is ∙ ap (λ (b : Bool). value (truth b)) (sym (c.decided.ensures.holds ∙ c.if-first.false)); end = omega (arith, u, v.end, next, h.long) }
 
 -- or
 
@@ -106,8 +107,8 @@ returns-then-first-2 t c ins x ready =
     let next : c.saturating_add-next.result ≡ c.args.pos + 1 = omega (arith, test_within _ _ x ready.placed.stands, h.long, c.saturating_add-next.ensures) in
     let two = or_ready _ _ _ x ready h _ next in
     let v = c.in_ok-first-in-4.ensures ins h.t two.0 in
-    let u = c.skip_test-then-first-2.ensures h.u (test_moved _ _ _ _ two.1 _ v.end).placed in
-    record { is = or_stops _ _ _ x h _ c.if-first-2.true v.is; end = omega (arith, u, v.end, next, h.long) }
+    let u = c.decided-then-first-2.ensures.end h.u (test_moved _ _ _ _ two.1 _ v.end).placed in
+    record { is = or_stops _ _ _ x h _ c.if-first-2.true v.is ∙ ap (λ (b : Bool). value (truth b)) (sym (c.decided-then-first-2.ensures.holds ∙ c.if-first-2.true)); end = omega (arith, u, v.end, next, h.long) }
 
 pub returns-else-first-2 : goal.returns-else-first-2
 returns-else-first-2 t c ins x ready =

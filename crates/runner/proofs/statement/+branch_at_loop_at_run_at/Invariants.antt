@@ -1,4 +1,4 @@
-use Rattle.std.proofs.Common.{◌≡◌, ◌+◌, ◌*◌, length}
+use Rattle.std.proofs.Common.{◌≡◌, ◌+◌, ◌-◌, ◌*◌, length}
 use Rattle.program.specs.Syntax.{Test, Stmt}
 use Rattle.program.specs.Encoding.{encode_test}
 use Rattle.program.specs.Semantics.{run_loop, run}
@@ -16,11 +16,8 @@ abbrev pub decreases-run_at : goal.decreases-run_at
 decreases-run_at l = 2 * l.left
 
 -- what is left of the loop, with the rounds that are left, comes to what the loop comes to
-abbrev pub invariant-loop_at-loop-rounds : goal.invariant-loop_at-loop-rounds
-invariant-loop_at-loop-rounds l =
+abbrev pub invariant-loop_at-loop : goal.invariant-loop_at-loop
+invariant-loop_at-loop l =
     (t : Test) (a : Stmt) → TestReady l.task.text.now l.pos l.left t → StmtReady l.task.text.now (l.pos + length (encode_test t)) l.left a →
-    run_loop l.rounds l.number t (λ u. run l.task.rounds a u) (as_state l.task.inputs.now l.state)
+    run_loop (l.task.rounds - l.counter) l.number t (λ u. run l.task.rounds a u) (as_state l.task.inputs.now l.state)
     ≡ run_loop l.task.rounds l.number t (λ u. run l.task.rounds a u) (as_state l.task.inputs.now l.initial.state)
-
-abbrev pub decreases-loop_at-loop-rounds : goal.decreases-loop_at-loop-rounds
-decreases-loop_at-loop-rounds l = l.rounds
