@@ -7,7 +7,5 @@ mod limits;
 mod operator;
 
 pub use fault::Fault;
-pub use limits::{
-    ARRAYS, BYTES, ELEMENTS, FIRST, LIMIT, LOOPS, NESTING, TESTS, VARIABLES,
-};
+pub use limits::{ARRAYS, BYTES, ELEMENTS, FIRST, LIMIT, LOOPS, NESTING, TESTS, VARIABLES};
 pub use operator::Operator;
