@@ -1,119 +1,87 @@
 // A program with one of its statements made simpler, or one of its numbers smaller.
-use crate::walk::{byte_at, collect, test_end};
+use crate::walk::{Kind, body_at, end_at, next_at, places_of};
+use crate::way::Way;
 use scanner::read_number;
 use std::alloc::{AllocError, Global};
+use std::ops::Range;
 use valid::ValidProgram;
 
-// Where the program's statement stands.
-fn body_at(text: &[u8]) -> usize {
-    10 + 8 * byte_at(text, 9) as usize
-}
-
-fn places_of(heap: Global, text: &[u8]) -> Result<Vec<usize>, AllocError> {
-    let mut places = Vec::new(heap);
-    let _end = collect(text, body_at(text), text.len(), &mut places)?;
-    Ok(places)
-}
-
-fn end_at(heap: Global, text: &[u8], pos: usize) -> Result<usize, AllocError> {
-    let mut places = Vec::new(heap);
-    collect(text, pos, text.len(), &mut places)
-}
-
-// The number in the eight bytes at a position.
+// The number in the eight bytes at a position, as many as there are.
 fn put_word(text: &mut [u8], pos: usize, n: u64) {
-    let bytes = n.to_be_bytes();
-    for i in 0..8 {
-        if pos < text.len() && i < text.len() - pos {
-            text[pos + i] = bytes[i];
-        }
+    for (byte, digit) in text.iter_mut().skip(pos).zip(n.to_be_bytes()) {
+        *byte = digit;
     }
 }
 
 // The statements numbered as they stand.
-fn renumber(heap: Global, text: &mut Vec<u8>) -> Result<(), AllocError> {
-    let places = places_of(heap, text.as_slice())?;
+fn renumber(text: &mut [u8]) {
     let mut number: u64 = 0;
-    for place in places.iter() {
-        let tag = byte_at(text.as_slice(), *place);
-        if tag != 0 && tag != 5 {
+    let mut pos = body_at(text);
+    while pos < text.len() {
+        if Kind::at(text, pos).is_numbered() {
             number = number.saturating_add(1);
-            put_word(text.as_mut_slice(), place.saturating_add(1), number);
+            put_word(text, pos + 1, number);
         }
+        pos = next_at(text, pos);
     }
-    Ok(())
 }
 
-// The bytes from `start` to `end` replaced by others.
+// The bytes with those in a range replaced by others.
 fn replaced(
     heap: Global,
     text: &[u8],
-    start: usize,
-    end: usize,
+    range: Range<usize>,
     part: &[u8],
 ) -> Result<Vec<u8>, AllocError> {
-    let (front, _) = text.split_at(start.min(text.len()));
-    let (_, back) = text.split_at(end.min(text.len()));
-    let mut bytes = Vec::from_slice(heap, front)?;
+    let mut bytes = Vec::from_slice(heap, text.get(..range.start).unwrap_or(text))?;
     bytes.extend_from_slice(part)?;
-    bytes.extend_from_slice(back)?;
+    bytes.extend_from_slice(text.get(range.end..).unwrap_or(&[]))?;
     Ok(bytes)
 }
 
-// The part of the statement at `pos` that is to stand in its place: its first or its second.
-fn part_of(
-    heap: Global,
-    text: &[u8],
-    pos: usize,
-    second: bool,
-) -> Result<(usize, usize), AllocError> {
-    let first = if byte_at(text, pos) == 5 {
-        pos.saturating_add(1)
-    } else {
-        test_end(text, pos.saturating_add(9), text.len())
+// What is to stand in place of the statement at `pos`; none if it has no such part.
+fn part_of(text: &[u8], pos: usize, way: Way) -> Option<&[u8]> {
+    let kind = Kind::at(text, pos);
+    let first = next_at(text, pos);
+    let part = match way {
+        Way::Nothing if kind == Kind::Nothing => return None,
+        Way::Nothing => 0..0,
+        _ if matches!(kind, Kind::Nothing | Kind::Simple) => return None,
+        Way::First => first..end_at(text, first),
+        Way::Second => {
+            let second = end_at(text, first);
+            second..end_at(text, second)
+        }
     };
-    let mid = end_at(heap, text, first)?;
-    if second {
-        Ok((mid, end_at(heap, text, mid)?))
-    } else {
-        Ok((first, mid))
-    }
+    Some(
+        text.get(part)
+            .filter(|part| !part.is_empty())
+            .unwrap_or(&[0]),
+    )
 }
 
 // How many statements the program has.
 pub fn place_count(heap: Global, program: &ValidProgram) -> Result<usize, AllocError> {
-    let places = places_of(heap, program.bytes())?;
-    Ok(places.len())
+    Ok(places_of(heap, program.bytes())?.len())
 }
 
-// The program with a statement replaced: by nothing (0), by its first part (1), by its second (2); none if it is not valid then.
+// The program with a statement replaced; none if it has no such part, or the program is not valid then.
 pub fn simpler(
     heap: Global,
     program: &ValidProgram,
     place: usize,
-    way: u8,
+    way: Way,
 ) -> Result<Option<ValidProgram>, AllocError> {
     let text = program.bytes();
     let places = places_of(heap, text)?;
-    if place >= places.len()
-        || (way == 0 && byte_at(text, places[place]) == 0)
-        || (way > 0 && byte_at(text, places[place]) < 5)
-    {
+    let Some(&start) = places.get(place) else {
         return Ok(None);
-    }
-    let start = places[place];
-    let end = end_at(heap, text, start)?;
-    let (from, to) = if way == 0 {
-        (0, 0)
-    } else {
-        part_of(heap, text, start, way == 2)?
     };
-    let mut bytes = if from < to && to <= text.len() {
-        replaced(heap, text, start, end, &text[from..to])?
-    } else {
-        replaced(heap, text, start, end, &[0])?
+    let Some(part) = part_of(text, start, way) else {
+        return Ok(None);
     };
-    renumber(heap, &mut bytes)?;
+    let mut bytes = replaced(heap, text, start..end_at(text, start), part)?;
+    renumber(bytes.as_mut_slice());
     Ok(ValidProgram::new(bytes))
 }
 
@@ -124,12 +92,9 @@ pub fn with_number(
     pos: usize,
 ) -> Result<Option<ValidProgram>, AllocError> {
     let text = program.bytes();
-    let Some(n) = read_number(text, pos) else {
+    let Some(n) = read_number(text, pos).filter(|n| *n > 0) else {
         return Ok(None);
     };
-    if n == 0 {
-        return Ok(None);
-    }
     let mut bytes = Vec::from_slice(heap, text)?;
     put_word(bytes.as_mut_slice(), pos, n / 2);
     Ok(ValidProgram::new(bytes))

@@ -4,5 +4,7 @@
 
 mod edit;
 mod walk;
+mod way;
 
 pub use edit::{place_count, simpler, with_number};
+pub use way::Way;

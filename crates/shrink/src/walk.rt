@@ -1,81 +1,66 @@
 // Where the statements of a program stand.
-use std::alloc::AllocError;
+ghost use Rattle.std.specs.Prelude.{◌<◌, length};
 
-// The byte at a position; past the end 0.
-pub fn byte_at(text: &[u8], pos: usize) -> u8 {
-    if pos < text.len() { text[pos] } else { 0 }
+use bytes_at::byte_at;
+use runner::{skip_stmt, skip_test};
+use std::alloc::{AllocError, Global};
+
+// What a statement is made of: nothing, no other statement, two statements, or a test and one or two statements.
+#[derive(Clone, Copy, PartialEq, Eq)]
+pub enum Kind {
+    Nothing,
+    Simple,
+    Pair,
+    Tested,
 }
 
-// The end of the expression at `pos`, of at most `left` bytes.
-fn expression_end(text: &[u8], pos: usize, left: usize) -> usize {
-    if left == 0 {
-        return pos;
-    }
-    let next = pos.saturating_add(2);
-    match byte_at(text, pos) {
-        0 => pos.saturating_add(9),
-        1 => next,
-        2 => expression_end(text, expression_end(text, next, left - 1), left - 1),
-        _ => expression_end(text, next, left - 1),
-    }
-}
-
-// The end of the test at `pos`, of at most `left` bytes.
-pub fn test_end(text: &[u8], pos: usize, left: usize) -> usize {
-    if left == 0 {
-        return pos;
-    }
-    let next = pos.saturating_add(1);
-    match byte_at(text, pos) {
-        0 | 1 => expression_end(text, expression_end(text, next, left), left),
-        2 => test_end(text, next, left - 1),
-        _ => test_end(text, test_end(text, next, left - 1), left - 1),
-    }
-}
-
-// The end of the statement without parts at `pos`.
-fn simple_end(text: &[u8], pos: usize, left: usize) -> usize {
-    let next = pos.saturating_add(10);
-    match byte_at(text, pos) {
-        0 => pos.saturating_add(1),
-        1 => expression_end(text, next, left),
-        2 => expression_end(text, expression_end(text, next, left), left),
-        3 => pos.saturating_add(26),
-        _ => test_end(text, pos.saturating_add(9), left),
-    }
-}
-
-// The statements from the one at `pos` on, of at most `left` bytes, in the order in which they stand; and its end.
-pub fn collect(
-    text: &[u8],
-    pos: usize,
-    left: usize,
-    places: &mut Vec<usize>,
-) -> Result<usize, AllocError> {
-    if left == 0 {
-        return Ok(pos);
-    }
-    places.push(pos)?;
-    match byte_at(text, pos) {
-        5 => {
-            let mid = collect(text, pos.saturating_add(1), left - 1, places)?;
-            collect(text, mid, left - 1, places)
+impl Kind {
+    // The kind of the statement at `pos`.
+    pub fn at(text: &[u8], pos: usize) -> Kind {
+        match byte_at(text, pos) {
+            0 => Kind::Nothing,
+            5 => Kind::Pair,
+            6 | 7 => Kind::Tested,
+            _ => Kind::Simple,
         }
-        6 => {
-            let mid = collect(
-                text,
-                test_end(text, pos.saturating_add(9), left),
-                left - 1,
-                places,
-            )?;
-            collect(text, mid, left - 1, places)
-        }
-        7 => collect(
-            text,
-            test_end(text, pos.saturating_add(9), left),
-            left - 1,
-            places,
-        ),
-        _ => Ok(simple_end(text, pos, left)),
     }
+
+    // Whether such statements have numbers.
+    pub fn is_numbered(self) -> bool {
+        matches!(self, Kind::Simple | Kind::Tested)
+    }
+}
+
+// Where the program's statement stands.
+pub fn body_at(text: &[u8]) -> usize {
+    10 + 8 * usize::from(byte_at(text, 9))
+}
+
+// The end of the statement at `pos`.
+pub fn end_at(text: &[u8], pos: usize) -> usize {
+    skip_stmt(text, pos, text.len())
+}
+
+// Where the first statement in the one at `pos` stands, or else the one behind it: always further on.
+pub fn next_at(text: &[u8], pos: usize) -> usize
+    ensures { pos < length text.now → pos < result }
+{
+    let behind = pos.saturating_add(1);
+    let next = match Kind::at(text, pos) {
+        Kind::Pair => behind,
+        Kind::Tested => skip_test(text, pos.saturating_add(9), text.len()),
+        Kind::Nothing | Kind::Simple => end_at(text, pos),
+    };
+    next.max(behind)
+}
+
+// Where the program's statements stand, in order.
+pub fn places_of(heap: Global, text: &[u8]) -> Result<Vec<usize>, AllocError> {
+    let mut places = Vec::new(heap);
+    let mut pos = body_at(text);
+    while pos < text.len() {
+        places.push(pos)?;
+        pos = next_at(text, pos);
+    }
+    Ok(places)
 }

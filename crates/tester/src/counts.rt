@@ -2,7 +2,7 @@
 use runner::Outcome;
 use std::fmt;
 
-#[derive(Clone, Copy)]
+#[derive(Clone, Copy, Default)]
 pub struct Counts {
     pub programs: u64,
     pub discarded: u64,
@@ -16,20 +16,6 @@ pub struct Counts {
 }
 
 impl Counts {
-    pub fn new() -> Counts {
-        Counts {
-            programs: 0,
-            discarded: 0,
-            runs: 0,
-            faults: 0,
-            ends: 0,
-            out_of_rounds: 0,
-            alarms: 0,
-            met: 0,
-            missing: 0,
-        }
-    }
-
     pub fn discard(&mut self) {
         self.discarded = self.discarded.saturating_add(1);
     }

@@ -41,7 +41,7 @@ fn show(rt: &HostRuntime, failure: &Failure) -> anyhow::Result<()> {
 fn test(rt: &HostRuntime, seed: u64, count: u64, runs: u64) -> anyhow::Result<u64> {
     let heap = rt.alloc();
     let mut random = Random::new(seed);
-    let mut counts = Counts::new();
+    let mut counts = Counts::default();
     for i in 0..count {
         if i > 0 && i % EVERY == 0 {
             println!(rt; "{i} programs")?;

@@ -1,7 +1,7 @@
 // The smallest program that still shows something missing, as far as small steps lead.
 use crate::trial::{Failure, ROUNDS};
 use compare::examine;
-use shrink::{place_count, simpler, with_number};
+use shrink::{Way, place_count, simpler, with_number};
 use std::alloc::{AllocError, Global};
 use valid::ValidProgram;
 
@@ -27,25 +27,35 @@ fn still_missing(
     }))
 }
 
-// A statement replaced by nothing or by one of its parts.
-fn fewer(heap: Global, failure: &Failure) -> Result<Option<Failure>, AllocError> {
-    let count = place_count(heap, &failure.program)?;
-    for place in 0..count {
-        for way in 0..3 {
-            let program = simpler(heap, &failure.program, place, way)?;
-            if let Some(next) = still_missing(heap, program, failure.inputs.as_slice())? {
-                return Ok(Some(next));
-            }
-        }
-    }
-    Ok(None)
+// A step to a smaller program: a statement replaced, or the number at a position halved.
+#[derive(Clone, Copy)]
+enum Step {
+    Replace(usize, Way),
+    Halve(usize),
 }
 
-// A number halved.
-fn lower(heap: Global, failure: &Failure) -> Result<Option<Failure>, AllocError> {
-    let count = failure.program.bytes().len();
-    for pos in 10..count {
-        let program = with_number(heap, &failure.program, pos)?;
+impl Step {
+    fn apply(
+        self,
+        heap: Global,
+        program: &ValidProgram,
+    ) -> Result<Option<ValidProgram>, AllocError> {
+        match self {
+            Step::Replace(place, way) => simpler(heap, program, place, way),
+            Step::Halve(pos) => with_number(heap, program, pos),
+        }
+    }
+}
+
+// The failure of the first smaller program that still shows something missing.
+fn smaller(heap: Global, failure: &Failure) -> Result<Option<Failure>, AllocError> {
+    let places = 0..place_count(heap, &failure.program)?;
+    let numbers = 10..failure.program.bytes().len();
+    let steps = places
+        .flat_map(|place| Way::ALL.map(|way| Step::Replace(place, way)))
+        .chain(numbers.map(Step::Halve));
+    for step in steps {
+        let program = step.apply(heap, &failure.program)?;
         if let Some(next) = still_missing(heap, program, failure.inputs.as_slice())? {
             return Ok(Some(next));
         }
@@ -57,11 +67,7 @@ fn lower(heap: Global, failure: &Failure) -> Result<Option<Failure>, AllocError>
 pub fn shrink_failure(heap: Global, failure: Failure) -> Result<Failure, AllocError> {
     let mut best = failure;
     for _ in 0..STEPS {
-        if let Some(next) = fewer(heap, &best)? {
-            best = next;
-            continue;
-        }
-        let Some(next) = lower(heap, &best)? else {
+        let Some(next) = smaller(heap, &best)? else {
             break;
         };
         best = next;

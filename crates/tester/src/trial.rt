@@ -24,24 +24,13 @@ pub struct Failure {
 }
 
 // Marks the alarm that the run met, if it met one.
-fn mark(report: &Report, outcome: &Outcome, met: &mut Vec<bool>) {
-    if let Outcome::Fault { stmt, fault } = outcome {
-        if let Some(i) = find_alarm(report.alarms.as_slice(), *stmt, fault.number()) {
-            if i < met.len() {
-                met[i] = true;
-            }
-        }
+fn mark(report: &Report, outcome: &Outcome, met: &mut [bool]) {
+    if let Outcome::Fault { stmt, fault } = outcome
+        && let Some(i) = find_alarm(report.alarms.as_slice(), *stmt, fault.number())
+        && let Some(flag) = met.get_mut(i)
+    {
+        *flag = true;
     }
-}
-
-fn count_true(flags: &[bool]) -> u64 {
-    let mut n: u64 = 0;
-    for flag in flags {
-        if *flag {
-            n = n.saturating_add(1);
-        }
-    }
-    n
 }
 
 // Runs the program so often, and says what its report lacks, if anything.
@@ -67,8 +56,9 @@ pub fn try_program(
                 missing,
             }));
         }
-        mark(&report, &outcome, &mut met);
+        mark(&report, &outcome, met.as_mut_slice());
     }
-    counts.program(report.alarms.len() as u64, count_true(met.as_slice()));
+    let count = met.iter().filter(|flag| **flag).count();
+    counts.program(report.alarms.len() as u64, count as u64);
     Ok(None)
 }
