@@ -54,7 +54,7 @@ fn print_loaded(heap: Global, text: &[u8], header: &Header) -> Result<String, Al
 {
     let mut out = String::new(heap);
     print_variables(&mut out, header.vars)?;
-    print_arrays(&mut out, &header.lengths[0..header.arrays as usize])?;
+    print_arrays(&mut out, header.lengths())?;
     print_stmt(text, header.body, text.len(), 0, &mut out)?;
     put(&mut out, "\n")?;
     Ok(out)

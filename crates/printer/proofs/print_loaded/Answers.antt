@@ -1,4 +1,3 @@
-use Rattle.std.proofs.Common.{◌≡◌, ℕ, ◌-◌, take, ap, arith}
 use Rattle.printer.proofs.Adding.{also}
 use Rattle.printer.proofs.Programs.{body_ready, loaded_text}
 use Rattle.printer.proofs.print_loaded.Goals as goal
@@ -6,6 +5,5 @@ use Rattle.printer.proofs.print_loaded.Goals as goal
 pub returns : goal.returns
 returns c l =
     let s = c.in_ok-print_stmt.ensures _ (body_ready _ _ l) in
-    let all : c.args.header.now.arrays - 0 ≡ c.args.header.now.arrays = omega arith in
-    loaded_text _ _ l _ _ _ c.new-out.ensures.bytes (ap (λ (k : ℕ). take k c.args.header.now.lengths) all)
+    loaded_text _ _ l _ _ _ c.new-out.ensures.bytes c.lengths.ensures
     (also (also (also c.in_ok-print_variables.ensures c.in_ok-print_arrays.ensures) s.text) c.in_ok-put.ensures)
