@@ -11,7 +11,7 @@ const ROWS: u64 = 1000;
 // The step was not asked for properly.
 const UNFIT: u64 = 999;
 
-// What is told, as one number.
+// What is told, as one number. No `From`, which could not ask that a row be short.
 fn code_of(told: Told) -> u64
     requires { Short told }
     ensures { result ≡ code_of told }

@@ -16,7 +16,7 @@ use reader::{Request, read_command};
 pub use tables::Told;
 use tables::{CURSOR, ROW, WORDS, show_end, show_from};
 
-// A step takes a command, or goes on with the last one.
+// A step takes a command, or goes on with the last one. The kinds are numbers, as C gives them.
 const COMMAND: u64 = 0;
 
 const GO_ON: u64 = 1;

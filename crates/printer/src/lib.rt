@@ -58,7 +58,7 @@ fn print_loaded(heap: Global, text: &[u8], header: &Header) -> Result<String, Al
 {
     let mut printer = Printer::new(heap, text, header.body);
     printer.variables(header.vars)?;
-    printer.arrays(&header.lengths[0..header.arrays as usize])?;
+    printer.arrays(header.lengths())?;
     printer.stmt(text.len(), 0)?;
     printer.put("\n")?;
     Ok(printer.out)

@@ -62,7 +62,7 @@ fn read_at_end(text: &[u8]) -> Option<Request>
     }
 }
 
-// The command that a text encodes, if it is valid.
+// The command that a text encodes, if it is valid. Its first byte is matched here, at the one place where it is read.
 pub fn read_command(text: &[u8]) -> Option<Request>
     ensures { Reads text.now result }
 {

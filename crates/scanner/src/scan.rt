@@ -1,4 +1,5 @@
 // Steps over the parts of a program: each scan answers where its part ends, or that no valid part stands there.
+// A first byte is matched where it is read: an enum between would be a second match over the same numbers.
 // The frames of the scans that call themselves stay small, since 16,379 statements or 16,369 expressions may stand in each other.
 ghost use Rattle.std.specs.Prelude.{◌≡◌, ◌+◌, ◌^◌, ◌<◌, ◌≤◌, ◌&&◌, nat_le, nat_lt};
 ghost use Rattle.program.specs.Basics.{limit};

@@ -19,7 +19,7 @@ fn clear(words: &mut [u64])
     words.fill(0);
 }
 
-// The bounds of intervals, one after another.
+// The bounds of intervals, one after another. Written by index, since nothing is known of words written through a slice's iterator under an adapter.
 fn store_intervals(words: &mut [u64], list: &[Interval])
     requires { length words.old ≡ 2 * length list.now }
     ensures { words.new ≡ bounds (length list.now) (as_intervals list.now) }
