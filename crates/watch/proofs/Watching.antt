@@ -6,7 +6,7 @@ use Rattle.program.specs.Basics.{eight}
 use Rattle.encoding.specs.Standing.{Stands}
 use Rattle.encoding.specs.Parts.{StmtAt}
 use Rattle.walker.specs.Ready.{Low, StmtReady, HasNoParts}
-use Rattle.program.specs.Syntax.{Expr, Test, Stmt, skip, assign, store, input, check, seq, branch, loop}
+use Rattle.program.specs.Syntax.{Test, Stmt, skip, assign, store, input, check, seq, branch, loop}
 use Rattle.analysis.specs.Reach.{Analysis}
 use Rattle.analysis.specs.AbstractState.{Env, Abstract, join}
 use Rattle.analysis.specs.Iteration.{iterate}
@@ -16,25 +16,6 @@ use Rattle.analysis.proofs.Clauses.{analyse_branch, analyse_loop}
 use Rattle.watch.specs.Watch.{noted, watch, Watched, Simple}
 
 module _ (ns ms : List ℕ) (n k : ℕ) where
-  pub simple_assign : (p x : ℕ) (e : Expr) → Simple ns ms n k p (assign p x e)
-  unfolding watch
-  simple_assign p x e h s = refl
-
-  pub simple_store : (p r : ℕ) (a e : Expr) → Simple ns ms n k p (store p r a e)
-  unfolding watch
-  simple_store p r a e h s = refl
-
-  pub simple_input : (p x a b : ℕ) → Simple ns ms n k p (input p x a b)
-  unfolding watch
-  simple_input p x a b h s = refl
-
-  pub simple_check : (p : ℕ) (t : Test) → Simple ns ms n k p (check p t)
-  unfolding watch
-  simple_check p t h s = refl
-
-  pub simple_as : (p : ℕ) (d e : Stmt) → d ≡ e → Simple ns ms n k p e → Simple ns ms n k p d
-  simple_as p d e q w = subst (λ (x : Stmt). Simple ns ms n k p x) (sym q) w
-
   pub watched_skip : (stop : ℕ) (h s : Abstract) (r : ℕ) → r ≡ stop → Watched stop ns ms n k h s h s skip r
   unfolding analyse watch
   watched_skip stop h s r e = record { out = refl; seen = refl; end = e }
@@ -94,15 +75,15 @@ pub record Noted (text : List ℕ) (ns ms : List ℕ) (n k pos : ℕ) (d : Stmt)
   pub simple : Simple ns ms n k p d
 
 module _ (text ns ms : List ℕ) (n k pos left : ℕ) (d : Stmt) (h : StmtReady text pos left d) where
+  noted_as : (p : ℕ) (e : Stmt) → Stands text (pos + 1) (eight p) → d ≡ e → stmt_numbers e ≡ p ∷ [] → Simple ns ms n k p e → Noted text ns ms n k pos d
+  noted_as p e number is one simple =
+      record { p = p; number = number; low = only_number text pos left d e p h is one; simple = subst (λ (x : Stmt). Simple ns ms n k p x) (sym is) simple }
+
   pub noted_by : (tag : ℕ) → StmtAt tag text pos d → HasNoParts tag → Noted text ns ms n k pos d
-  unfolding stmt_numbers
+  unfolding watch stmt_numbers
   noted_by zero s parts = absurd (omega (arith, parts.0))
-  noted_by (suc zero) s parts =
-      record { p = s.p; number = s.number; low = only_number text pos left d _ s.p h s.is refl; simple = simple_as ns ms n k s.p d _ s.is (simple_assign ns ms n k s.p s.v s.e) }
-  noted_by (suc (suc zero)) s parts =
-      record { p = s.p; number = s.number; low = only_number text pos left d _ s.p h s.is refl; simple = simple_as ns ms n k s.p d _ s.is (simple_store ns ms n k s.p s.r s.a s.e) }
-  noted_by (suc (suc (suc zero))) s parts =
-      record { p = s.p; number = s.number; low = only_number text pos left d _ s.p h s.is refl; simple = simple_as ns ms n k s.p d _ s.is (simple_input ns ms n k s.p s.v s.a s.b) }
-  noted_by (suc (suc (suc (suc zero)))) s parts =
-      record { p = s.p; number = s.number; low = only_number text pos left d _ s.p h s.is refl; simple = simple_as ns ms n k s.p d _ s.is (simple_check ns ms n k s.p s.t) }
+  noted_by (suc zero) s parts = noted_as s.p (assign s.p s.v s.e) s.number s.is refl (λ g seen. refl)
+  noted_by (suc (suc zero)) s parts = noted_as s.p (store s.p s.r s.a s.e) s.number s.is refl (λ g seen. refl)
+  noted_by (suc (suc (suc zero))) s parts = noted_as s.p (input s.p s.v s.a s.b) s.number s.is refl (λ g seen. refl)
+  noted_by (suc (suc (suc (suc zero)))) s parts = noted_as s.p (check s.p s.t) s.number s.is refl (λ g seen. refl)
   noted_by (suc (suc (suc (suc (suc tag))))) s parts = absurd (omega (arith, parts.1))

@@ -96,9 +96,3 @@ numbered_at-returns-in-7 t c has d rising h =
 
 pub numbered_at-returns-in_default : goal.numbered_at-returns-in_default
 numbered_at-returns-in_default t c has d rising h = c.simple_at.ensures _ _ d h (omega (arith, stmt_below _ _ d h.stands))
-
-pub walk_at-returns-in-6 : goal.walk_at-returns-in-6
-walk_at-returns-in-6 t c d rising h = c.numbered_at.ensures (omega (arith, c.in-6.is), λ e. omega (arith, e, c.in-6.is)) d rising h
-
-pub walk_at-returns-in_default : goal.walk_at-returns-in_default
-walk_at-returns-in_default t c d rising h = c.numbered_at-in_default.ensures (omega arith, λ e. omega (arith, e)) d rising h
