@@ -25,7 +25,7 @@ fn is_alarm(row: Row, stmt: u64, kind: u64) -> bool
     matches!(row, Row::Alarm { stmt: d, kind: k } if d == stmt && u64::from(k) == kind)
 }
 
-// Where the fault stands among the alarms.
+// Where the fault stands among the alarms; any number may be asked for, one that is no fault's too.
 pub fn find_alarm(alarms: &[Row], stmt: u64, kind: u64) -> Option<usize>
     ensures { AlarmFound alarms.now stmt kind result }
 {

@@ -16,7 +16,7 @@ use valid::ValidProgram;
 #[derive(Drop)]
 pub struct Report {
     pub alarms: Vec<Row>,
-    // Of each variable the row of its bounds; none if no run comes to an end.
+    // Of each variable the row of its bounds, as the session answers it; none if no run comes to an end.
     pub ends: Vec<Option<Row>>,
 }
 
@@ -35,7 +35,7 @@ fn end_of(heap: Global, session: &mut Session, x: u8) -> Result<Option<Row>, All
     Ok(first_row(&answer))
 }
 
-// Where each variable lies at the end.
+// Where each variable lies at the end. A loop, as each answer changes the session.
 fn ends_of(heap: Global, session: &mut Session, vars: u8) -> Result<Vec<Option<Row>>, AllocError>
     ensures { IfOk result (λ v. (p : Program) → Holds session.old p → vars ≡ p.vars → AllEnds p vars v.items) }
 {

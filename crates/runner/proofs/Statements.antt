@@ -5,18 +5,17 @@ use Rattle.program.specs.declared.fault.Fault.{Fault}
 use Rattle.program.specs.Syntax.{Expr, Test, Stmt, skip, assign, store, input, check, seq, branch, loop}
 use Rattle.program.specs.Semantics.{State, Evaluated, value, failed, bind_value, truth, eval, eval_test, with_value, take_input, Outcome, finished, fault, out_of_rounds, or_fault, and_then, run_loop, run}
 use Rattle.runner.specs.Changes.{has_element, with_element, Stored}
-use Rattle.runner.specs.Found.{Evaluates, Pairs, Tests, FoundOrStop, ValueOrStop, VerdictOrStop, PairOrStop, StoppedBy, Runs}
-use Rattle.runner.specs.Running.{ValueAt, VerdictAt}
-use Rattle.runner.specs.Working.{EvaluatesAt, TestsAt}
+use Rattle.runner.specs.Found.{FailsBy, Tests, stop_at, VerdictOrStop, StoppedBy, Runs}
+use Rattle.runner.specs.Running.{VerdictAt}
+use Rattle.runner.specs.Working.{TestsAt}
 use Rattle.runner.specs.declared.types.EvalError.{EvalError}
 use Rattle.runner.specs.declared.types.EvalError.TheVariants.{Fault as Failed, NoProgram as NoPart}
-use Rattle.runner.specs.declared.types.Pair.{Pair}
 use Rattle.runner.specs.declared.types.State.{State as Memory}
 use Rattle.runner.specs.declared.types.Stop.{Stop}
 use Rattle.runner.specs.declared.types.Stop.TheVariants.{Fault as FaultAt, OutOfRounds, NoProgram as NoStmt}
 use Rattle.runner.specs.declared.types.Task.{Task}
-use Rattle.runner.specs.declared.types.Value.{Value}
 use Rattle.runner.specs.declared.types.Verdict.{Verdict}
+use Rattle.runner.proofs.Tests.{TwoFail}
 
 -- the same run, and the same end
 pub runs_as : (stop stop₁ : ℕ) (o o₁ : Outcome) (s : State) (r : Result ℕ Stop) → stop₁ ≡ stop → o₁ ≡ o → Runs stop o s r → Runs stop₁ o₁ s r
@@ -59,25 +58,23 @@ two_stop p (value i) (value j) k g h = let e : value 0 ≡ failed k = h (λ n m.
 
 -- what was found goes on, or has stopped for the same reason
 
-value_or_stop : (p stop : ℕ) (w : Evaluated) (r : Result Value EvalError) (r₁ : Result Value Stop) → Evaluates stop w r → FoundOrStop p r r₁ → ValueOrStop p stop w r₁
-value_or_stop p stop w (Ok v) r₁ h e = subst (λ (x : Result Value Stop). ValueOrStop p stop w x) (sym e) h
-value_or_stop p stop w (Err (Failed f)) r₁ h e = subst (λ (x : Result Value Stop). ValueOrStop p stop w x) (sym e) (stops p w (fault_number f) h)
-value_or_stop p stop w (Err NoPart) r₁ h e = absurd h
-
-verdict_or_stop : (p stop : ℕ) (w : Evaluated) (r : Result Verdict EvalError) (r₁ : Result Verdict Stop) → Tests stop w r → FoundOrStop p r r₁ → VerdictOrStop p stop w r₁
+verdict_or_stop : (p stop : ℕ) (w : Evaluated) (r : Result Verdict EvalError) (r₁ : Result Verdict Stop) → Tests stop w r → r₁ ≡ stop_at p r → VerdictOrStop p stop w r₁
 verdict_or_stop p stop w (Ok v) r₁ h e = subst (λ (x : Result Verdict Stop). VerdictOrStop p stop w x) (sym e) h
 verdict_or_stop p stop w (Err (Failed f)) r₁ h e = subst (λ (x : Result Verdict Stop). VerdictOrStop p stop w x) (sym e) (stops p w (fault_number f) h)
 verdict_or_stop p stop w (Err NoPart) r₁ h e = absurd h
 
-pub pair_or_stop : (p stop : ℕ) (v w : Evaluated) (r : Result Pair EvalError) (r₁ : Result Pair Stop) → Pairs stop v w r → FoundOrStop p r r₁ → PairOrStop p stop v w r₁
-pair_or_stop p stop v w (Ok q) r₁ h e = subst (λ (x : Result Pair Stop). PairOrStop p stop v w x) (sym e) h
-pair_or_stop p stop v w (Err (Failed f)) r₁ h e = subst (λ (x : Result Pair Stop). PairOrStop p stop v w x) (sym e) (λ g. two_stop p v w (fault_number f) g h)
-pair_or_stop p stop v w (Err NoPart) r₁ h e = absurd (h (λ n m. value 0))
+-- an error of what is worked out is the statement's stop
+runs_stop : (p : ℕ) (w : Evaluated) (f : ℕ → Outcome) (stop : ℕ) (s : State) (e : EvalError) → FailsBy w e → Runs stop (or_fault p w f) s (stop_at p (Err e))
+runs_stop p w f stop s (Failed k) h = stops p w (fault_number k) h f
+runs_stop p w f stop s NoPart h = absurd h
 
-pub value_at : (task : Task) (m : Memory) (p pos left : ℕ) (r : Result Value EvalError) (r₁ : Result Value Stop) → EvaluatesAt task.text.now m pos left r → FoundOrStop p r r₁ → ValueAt task m p pos left r₁
-value_at task m p pos left r r₁ h e ins d ready = value_or_stop p _ _ r r₁ (h ins d ready) e
+-- of two expressions
+two_runs_stop : (p : ℕ) (v w : Evaluated) (g : ℕ → ℕ → Outcome) (stop : ℕ) (s : State) (e : EvalError) → TwoFail v w e →
+    Runs stop (or_fault p v (λ i. or_fault p w (λ j. g i j))) s (stop_at p (Err e))
+two_runs_stop p v w g stop s (Failed k) h = two_stop p v w (fault_number k) g h
+two_runs_stop p v w g stop s NoPart h = absurd (h (λ n m. value 0))
 
-pub verdict_at : (task : Task) (m : Memory) (p pos left : ℕ) (r : Result Verdict EvalError) (r₁ : Result Verdict Stop) → TestsAt task.text.now m pos left r → FoundOrStop p r r₁ → VerdictAt task m p pos left r₁
+pub verdict_at : (task : Task) (m : Memory) (p pos left : ℕ) (r : Result Verdict EvalError) (r₁ : Result Verdict Stop) → TestsAt task.text.now m pos left r → r₁ ≡ stop_at p r → VerdictAt task m p pos left r₁
 verdict_at task m p pos left r r₁ h e ins t ready = verdict_or_stop p _ _ r r₁ (h ins t ready) e
 
 module _ (n : ℕ) (s : State) where
@@ -85,18 +82,18 @@ module _ (n : ℕ) (s : State) where
   unfolding run
   skip_runs d e = ap (λ (x : Stmt). run n x s) e
 
-  pub assign_stops : (p x : ℕ) (e : Expr) (y : Stop) → Stops p (eval s e) y → StoppedBy (run n (assign p x e) s) y
+  pub assign_stops : (p x : ℕ) (e : Expr) (stop : ℕ) (s₁ : State) (y : EvalError) → FailsBy (eval s e) y → Runs stop (run n (assign p x e) s) s₁ (stop_at p (Err y))
   unfolding run
-  assign_stops p x e y h = h (λ v. finished (with_value s x v))
+  assign_stops p x e stop s₁ y h = runs_stop p (eval s e) (λ v. finished (with_value s x v)) stop s₁ y h
 
   pub assign_runs : (p x y : ℕ) (e : Expr) (v : ℕ) (s₁ : State) → x ≡ y → eval s e ≡ value v → s₁ ≡ with_value s x v → run n (assign p y e) s ≡ finished s₁
   unfolding run
   assign_runs p x y e v s₁ i h k = goes p (eval s e) (λ u. finished (with_value s y u)) v h ∙ ap finished (sym (k ∙ ap (λ (z : ℕ). with_value s z v) i))
 
-  pub store_stops : (p r : ℕ) (a e : Expr) (x : Stop) → ((f : ℕ → ℕ → Outcome) → StoppedBy (or_fault p (eval s a) (λ i. or_fault p (eval s e) (λ v. f i v))) x) →
-      StoppedBy (run n (store p r a e) s) x
+  pub store_stops : (p r : ℕ) (a e : Expr) (stop : ℕ) (s₁ : State) (y : EvalError) → TwoFail (eval s a) (eval s e) y → Runs stop (run n (store p r a e) s) s₁ (stop_at p (Err y))
   unfolding run
-  store_stops p r a e x h = h (λ i v. cond (has_element s r i) (finished (with_element s r i v)) (fault p 3))
+  store_stops p r a e stop s₁ y h =
+      two_runs_stop p (eval s a) (eval s e) (λ i v. cond (has_element s r i) (finished (with_element s r i v)) (fault p 3)) stop s₁ y h
 
   pub store_none : (p r q : ℕ) (a e : Expr) (i v : ℕ) (f : Fault) (s₁ : State) → r ≡ q → eval s a ≡ value i → eval s e ≡ value v → Stored s r i v (Err f) s₁ →
       run n (store p q a e) s ≡ fault p (fault_number f)
@@ -118,9 +115,9 @@ module _ (n : ℕ) (s : State) where
   input_runs p x y a c b d s₁ is low high k =
       ap finished (sym (k ∙ ap (λ (z : ℕ). take_input s z a b) is ∙ ap (λ (z : ℕ). take_input s y z b) low ∙ ap (λ (z : ℕ). take_input s y c z) high))
 
-  pub check_stops : (p : ℕ) (t : Test) (x : Stop) → Stops p (eval_test s t) x → StoppedBy (run n (check p t) s) x
+  pub check_stops : (p : ℕ) (t : Test) (stop : ℕ) (s₁ : State) (y : EvalError) → FailsBy (eval_test s t) y → Runs stop (run n (check p t) s) s₁ (stop_at p (Err y))
   unfolding run
-  check_stops p t x h = h (λ k. cond (eqb k 0) (fault p 4) (finished s))
+  check_stops p t stop s₁ y h = runs_stop p (eval_test s t) (λ k. cond (eqb k 0) (fault p 4) (finished s)) stop s₁ y h
 
   pub check_holds : (p : ℕ) (t : Test) (b : Bool) → eval_test s t ≡ value (truth b) → b ≡ true → run n (check p t) s ≡ finished s
   unfolding run

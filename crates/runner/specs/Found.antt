@@ -56,24 +56,15 @@ StoppedBy o OutOfRounds = o ≡ out_of_rounds
 StoppedBy o NoStmt = ⊥
 
 -- what was found in the statement p, or its stop for the same reason
-abbrev pub FoundOrStop : {A : Type 0} → ℕ → Result A EvalError → Result A Stop → Type 0
-FoundOrStop p (Ok v) r = r ≡ Ok v
-FoundOrStop p (Err (Failed f)) r = r ≡ Err (FaultAt p f)
-FoundOrStop p (Err NoPart) r = r ≡ Err NoStmt
+abbrev pub stop_at : {A : Type 0} → ℕ → Result A EvalError → Result A Stop
+stop_at p (Ok v) = Ok v
+stop_at p (Err (Failed f)) = Err (FaultAt p f)
+stop_at p (Err NoPart) = Err NoStmt
 
 -- a statement p whose value is w goes on with it, or has stopped
-abbrev pub ValueOrStop : ℕ → ℕ → Evaluated → Result Value Stop → Type 0
-ValueOrStop p stop w (Ok v) = ValueFound stop w v
-ValueOrStop p stop w (Err x) = (f : ℕ → Outcome) → StoppedBy (or_fault p w f) x
-
 abbrev pub VerdictOrStop : ℕ → ℕ → Evaluated → Result Verdict Stop → Type 0
 VerdictOrStop p stop w (Ok v) = VerdictFound stop w v
 VerdictOrStop p stop w (Err x) = (f : ℕ → Outcome) → StoppedBy (or_fault p w f) x
-
--- of two expressions
-abbrev pub PairOrStop : ℕ → ℕ → Evaluated → Evaluated → Result Pair Stop → Type 0
-PairOrStop p stop v w (Ok q) = PairFound stop v w q
-PairOrStop p stop v w (Err x) = (f : ℕ → ℕ → Outcome) → StoppedBy (or_fault p v (λ i. or_fault p w (λ j. f i j))) x
 
 -- the run ended in the state s₁, and the end of what was read
 pub record Finishes (stop : ℕ) (o : Outcome) (s₁ : State) (last : ℕ) : Type 0 where

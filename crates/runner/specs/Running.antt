@@ -4,23 +4,17 @@ use Rattle.std.specs.Prelude.{ℕ, ◌+◌, ◌<◌, List, length, Ok, Result, s
 use Rattle.program.specs.Basics.{eight, limit}
 use Rattle.program.specs.Syntax.{Expr, Test, Stmt, assign, store, input, check, branch, loop}
 use Rattle.program.specs.Encoding.{encode_expr, encode_test, encode_stmt}
-use Rattle.program.specs.Semantics.{eval, eval_test, run}
+use Rattle.program.specs.Semantics.{eval_test, run}
 use Rattle.encoding.specs.Standing.{Stands}
-use Rattle.runner.specs.Found.{ValueOrStop, VerdictOrStop, Runs}
+use Rattle.runner.specs.Found.{VerdictOrStop, Runs}
 use Rattle.runner.specs.Of.{as_state}
 use Rattle.runner.specs.Ready.{ExprReady, TestReady, StmtReady}
 use Rattle.runner.specs.declared.types.State.{State}
 use Rattle.runner.specs.declared.types.Stop.{Stop}
 use Rattle.runner.specs.declared.types.Task.{Task}
-use Rattle.runner.specs.declared.types.Value.{Value}
 use Rattle.runner.specs.declared.types.Verdict.{Verdict}
 
--- what an expression or a test of the statement p comes to
-
-abbrev pub ValueAt : Task → State → ℕ → ℕ → ℕ → Result Value Stop → Type 0
-ValueAt task m p pos left r =
-    (ins : List ℕ) (e : Expr) → ExprReady task.text.now pos left e → ValueOrStop p (pos + length (encode_expr e)) (eval (as_state ins m) e) r
-
+-- what a test of the statement p comes to
 abbrev pub VerdictAt : Task → State → ℕ → ℕ → ℕ → Result Verdict Stop → Type 0
 VerdictAt task m p pos left r =
     (ins : List ℕ) (t : Test) → TestReady task.text.now pos left t → VerdictOrStop p (pos + length (encode_test t)) (eval_test (as_state ins m) t) r

@@ -1,6 +1,6 @@
 // One error turned into another.
 ghost use Rattle.std.specs.Prelude.{◌≡◌};
-ghost use Rattle.runner.specs.Found.{FoundOrStop};
+ghost use Rattle.runner.specs.Found.{stop_at};
 ghost use Rattle.runner.specs.declared.types.EvalError.TheVariants.{Fault as Failed};
 ghost use Rattle.runner.specs.declared.types.RunError.TheVariants.{NoMemory};
 
@@ -18,7 +18,7 @@ impl From<Fault> for EvalError {
 
 // What is found in the statement `stmt`, or why the run stops there.
 pub fn at_stmt<T>(stmt: u64, found: Result<T, EvalError>) -> Result<T, Stop>
-    ensures { FoundOrStop stmt found result }
+    ensures { result ≡ stop_at stmt found }
 {
     match found {
         Ok(value) => Ok(value),

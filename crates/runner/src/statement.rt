@@ -1,53 +1,32 @@
 // Statements run over their bytes.
+ghost use Rattle.std.specs.Prelude.{ℕ};
+ghost use Rattle.runner.specs.Found.{stop_at};
 ghost use Rattle.runner.specs.Running.{RunsStmt, RunsAssign, RunsStore, RunsInput, RunsCheck, RunsBranch, RunsLoop};
 
 use crate::condition::{pair_at, test_at};
 use crate::errors::at_stmt;
 use crate::expression::eval_at;
 use crate::skip::skip_stmt;
-use crate::types::{State, Stop, Task};
+use crate::types::{EvalError, State, Stop, Task};
 use bytes_at::{byte_at, word_at};
 use program::Fault;
 
 // An assignment, behind its number.
-fn assign_at(
-    task: &Task,
-    number: u64,
-    pos: usize,
-    left: usize,
-    state: &mut State,
-) -> Result<usize, Stop>
-    ensures { RunsAssign task.now state.old state.new number pos left result }
+fn assign_at(task: &Task, pos: usize, left: usize, state: &mut State) -> Result<usize, EvalError>
+    ensures { (p : ℕ) → RunsAssign task.now state.old state.new p pos left (stop_at p result) }
 {
-    let found = at_stmt(
-        number,
-        eval_at(task.text, pos.saturating_add(1), left, state),
-    )?;
+    let found = eval_at(task.text, pos.saturating_add(1), left, state)?;
     state.assign(byte_at(task.text, pos) as usize, found.value);
     Ok(found.end)
 }
 
 // A store, behind its number.
-fn store_at(
-    task: &Task,
-    number: u64,
-    pos: usize,
-    left: usize,
-    state: &mut State,
-) -> Result<usize, Stop>
-    ensures { RunsStore task.now state.old state.new number pos left result }
+fn store_at(task: &Task, pos: usize, left: usize, state: &mut State) -> Result<usize, EvalError>
+    ensures { (p : ℕ) → RunsStore task.now state.old state.new p pos left (stop_at p result) }
 {
-    let pair = at_stmt(
-        number,
-        pair_at(task.text, pos.saturating_add(1), left, state),
-    )?;
-    match state.store(byte_at(task.text, pos) as usize, pair.first, pair.second) {
-        Ok(()) => Ok(pair.end),
-        Err(fault) => Err(Stop::Fault {
-            stmt: number,
-            fault,
-        }),
-    }
+    let pair = pair_at(task.text, pos.saturating_add(1), left, state)?;
+    state.store(byte_at(task.text, pos) as usize, pair.first, pair.second)?;
+    Ok(pair.end)
 }
 
 // An input, behind its number: its end.
@@ -61,17 +40,14 @@ fn input_at(task: &Task, pos: usize, state: &mut State) -> usize
 }
 
 // A check, behind its number.
-fn check_at(task: &Task, number: u64, pos: usize, left: usize, state: &State) -> Result<usize, Stop>
-    ensures { RunsCheck task.now state.now number pos left result }
+fn check_at(task: &Task, pos: usize, left: usize, state: &State) -> Result<usize, EvalError>
+    ensures { (p : ℕ) → RunsCheck task.now state.now p pos left (stop_at p result) }
 {
-    let test = at_stmt(number, test_at(task.text, pos, left, state))?;
+    let test = test_at(task.text, pos, left, state)?;
     if test.holds {
         Ok(test.end)
     } else {
-        Err(Stop::Fault {
-            stmt: number,
-            fault: Fault::Check,
-        })
+        Err(EvalError::Fault(Fault::Check))
     }
 }
 
@@ -117,6 +93,8 @@ fn loop_at(
 }
 
 // The statement at `pos`, of at most `left` bytes: where it ends, or why the run stops.
+// The first byte says which statement it is: this reads it, and nothing else asks for it.
+// `pos` and `left` differ in each call, each in its own way, so they are no struct.
 #[cycle(branch_at_loop_at_run_at)]
 pub fn run_at(task: &Task, pos: usize, left: usize, state: &mut State) -> Result<usize, Stop>
     ensures { RunsStmt task.now state.old state.new pos left result }
@@ -128,10 +106,10 @@ pub fn run_at(task: &Task, pos: usize, left: usize, state: &mut State) -> Result
     let next = pos.saturating_add(9);
     match byte_at(task.text, pos) {
         0 => Ok(pos.saturating_add(1)),
-        1 => assign_at(task, number, next, left - 1, state),
-        2 => store_at(task, number, next, left - 1, state),
+        1 => at_stmt(number, assign_at(task, next, left - 1, state)),
+        2 => at_stmt(number, store_at(task, next, left - 1, state)),
         3 => Ok(input_at(task, next, state)),
-        4 => check_at(task, number, next, left - 1, state),
+        4 => at_stmt(number, check_at(task, next, left - 1, state)),
         5 => {
             let second = run_at(task, pos.saturating_add(1), left - 1, state)?;
             run_at(task, second, left - 1, state)

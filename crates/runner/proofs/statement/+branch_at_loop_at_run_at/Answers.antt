@@ -94,8 +94,8 @@ run_at-returns-in-1 t c d ready =
     let at : c.saturating_add.result ≡ c.args.pos + 1 = omega (arith, l, h.long, c.saturating_add.ensures) in
     let next : c.saturating_add-next.result ≡ c.args.pos + 9 = omega (arith, l, h.long, c.saturating_add-next.ensures) in
     let k = word_is _ _ h.p h.number (assign_number _ _ _ d ready h) _ _ at c.word_at-number.ensures in
-    runs_as _ _ _ _ _ _ (omega (arith, h.long, next)) (run_same _ _ d _ (assign_is _ _ _ d ready h _ _ k next))
-    (c.assign_at.ensures h.e (assign_ready _ _ _ d ready h (c.saturating_add-next.result + 1) (omega (arith, next))))
+    rw c.at_stmt.ensures (runs_as _ _ _ _ _ _ (omega (arith, h.long, next)) (run_same _ _ d _ (assign_is _ _ _ d ready h _ _ k next))
+    (c.assign_at.ensures c.word_at-number.result h.e (assign_ready _ _ _ d ready h (c.saturating_add-next.result + 1) (omega (arith, next)))))
 
 pub run_at-returns-in-2 : goal.run_at-returns-in-2
 run_at-returns-in-2 t c d ready =
@@ -105,8 +105,8 @@ run_at-returns-in-2 t c d ready =
     let next : c.saturating_add-next.result ≡ c.args.pos + 9 = omega (arith, l, h.long, c.saturating_add-next.ensures) in
     let k = word_is _ _ h.p h.number (store_number _ _ _ d ready h) _ _ at c.word_at-number.ensures in
     let two = store_ready _ _ _ d ready h (c.saturating_add-next.result + 1) (omega (arith, next)) in
-    runs_as _ _ _ _ _ _ (omega (arith, h.long, next)) (run_same _ _ d _ (store_is _ _ _ d ready h _ _ k next))
-    (c.store_at.ensures h.a h.e two.0 two.1)
+    rw c.at_stmt-in-2.ensures (runs_as _ _ _ _ _ _ (omega (arith, h.long, next)) (run_same _ _ d _ (store_is _ _ _ d ready h _ _ k next))
+    (c.store_at.ensures c.word_at-number.result h.a h.e two.0 two.1))
 
 pub run_at-returns-in-3 : goal.run_at-returns-in-3
 run_at-returns-in-3 t c d ready =
@@ -123,8 +123,8 @@ run_at-returns-in-4 t c d ready =
     let at : c.saturating_add.result ≡ c.args.pos + 1 = omega (arith, l, h.long, c.saturating_add.ensures) in
     let next : c.saturating_add-next.result ≡ c.args.pos + 9 = omega (arith, l, h.long, c.saturating_add-next.ensures) in
     let k = word_is _ _ h.p h.number (check_number _ _ _ d ready h) _ _ at c.word_at-number.ensures in
-    runs_as _ _ _ _ _ _ (omega (arith, h.long, next)) (run_same _ _ d _ (check_is _ _ _ d ready h _ k))
-    (c.check_at.ensures h.t (check_ready _ _ _ d ready h _ next))
+    rw c.at_stmt-in-4.ensures (runs_as _ _ _ _ _ _ (omega (arith, h.long, next)) (run_same _ _ d _ (check_is _ _ _ d ready h _ k))
+    (c.check_at.ensures c.word_at-number.result h.t (check_ready _ _ _ d ready h _ next)))
 
 pub run_at-returns-in_err-second-in-5 : goal.run_at-returns-in_err-second-in-5
 run_at-returns-in_err-second-in-5 t c d ready =
