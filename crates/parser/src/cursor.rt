@@ -1,6 +1,6 @@
 // Single tokens.
-ghost use Rattle.std.specs.Prelude.{◌≡◌, ◌+◌, ◌<◌, ◌≤◌, T, length, OnOk, OnSome, vec_len};
-ghost use Rattle.parser.specs.Reading.{Skips};
+ghost use Rattle.std.specs.Prelude.{◌≡◌, ◌+◌, ◌<◌, ◌≤◌, ◌↔◌, T, length, IfOk, IsTrue, OnOk, OnSome, vec_len};
+ghost use Rattle.parser.specs.Reading.{next, Skips};
 
 use crate::parser::Parser;
 use grammar::{Expected, ParseError};
@@ -9,7 +9,8 @@ use lexer::{Key, Token};
 impl<'a> Parser<'a> {
     // The next token, if one is left.
     pub fn peek(&self) -> Option<Token>
-        ensures { OnSome result (self.now.at < length self.now.tokens.now) }
+        ensures is { result ≡ next self.now }
+        ensures left { OnSome result (self.now.at < length self.now.tokens.now) }
     {
         self.tokens.get(self.at).copied()
     }
@@ -32,6 +33,7 @@ impl<'a> Parser<'a> {
 
     // Goes past this key, if it is next.
     pub fn eat(&mut self, key: Key) -> bool
+        ensures is { IsTrue result ↔ (next self.old ≡ Some (Token.Key key)) }
         ensures on { Skips self.old self.new }
         ensures past { T result → self.new.at ≡ self.old.at + 1 }
     {
@@ -43,13 +45,16 @@ impl<'a> Parser<'a> {
     }
 
     // What should stand next and does not.
-    pub fn missing(&self, what: Expected) -> ParseError {
+    pub fn missing(&self, what: Expected) -> ParseError
+        ensures { result ≡ ParseError.Expected self.now.at what }
+    {
         ParseError::Expected { at: self.at, what }
     }
 
     // Goes past this key, which must be next.
     pub fn expect(&mut self, key: Key, what: Expected) -> Result<(), ParseError>
-        ensures { Skips self.old self.new }
+        ensures is { OnOk result (next self.old ≡ Some (Token.Key key)) }
+        ensures on { Skips self.old self.new }
     {
         if !self.eat(key) {
             return Err(self.missing(what));
@@ -59,7 +64,8 @@ impl<'a> Parser<'a> {
 
     // The number that must be next.
     pub fn number(&mut self) -> Result<u64, ParseError>
-        ensures { Skips self.old self.new }
+        ensures is { IfOk result (λ n. next self.old ≡ Some (Token.Number n)) }
+        ensures on { Skips self.old self.new }
     {
         let Some(Token::Number(n)) = self.peek() else {
             return Err(self.missing(Expected::Number));
@@ -70,6 +76,7 @@ impl<'a> Parser<'a> {
 
     // The word that must be next; what is missing where none is.
     pub fn word(&mut self, what: Expected) -> Result<usize, ParseError>
+        ensures is { IfOk result (λ w. next self.old ≡ Some (Token.Word w)) }
         ensures on { Skips self.old self.new }
         ensures past { OnOk result (self.new.at ≡ self.old.at + 1) }
     {

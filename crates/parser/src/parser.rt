@@ -1,5 +1,5 @@
 // What the parser holds while it reads.
-ghost use Rattle.std.specs.Prelude.{◌≡◌, ◌≤◌, length, vec_len, position, ◌==◌};
+ghost use Rattle.std.specs.Prelude.{◌≡◌, ◌<◌, ◌≤◌, length, slice_get, vec_len, IfSome};
 
 use lexer::Token;
 use std::alloc::Global;
@@ -39,7 +39,9 @@ impl<'a> Parser<'a> {
     }
 
     // A variable's number, by its word.
-    pub fn variable(&self, word: usize) -> Option<u8> {
+    pub fn variable(&self, word: usize) -> Option<u8>
+        ensures { IfSome result (λ x. slice_get self.now.variables.items x ≡ Some word) }
+    {
         self.variables
             .iter()
             .position(|other| *other == word)
@@ -47,7 +49,9 @@ impl<'a> Parser<'a> {
     }
 
     // An array's number, by its word.
-    pub fn array(&self, word: usize) -> Option<u8> {
+    pub fn array(&self, word: usize) -> Option<u8>
+        ensures { IfSome result (λ r. r < vec_len self.now.arrays) }
+    {
         self.arrays
             .iter()
             .position(|array| array.word == word)
