@@ -11,7 +11,8 @@ use program::LIMIT;
 // The largest number.
 const TOP: u64 = LIMIT - 1;
 
-// The threshold above in an ascending list; in another any number.
+// The threshold above in an ascending list; in another any number. Test, side and what stands for none are others than below: one function
+// for both would take its whole body as parameters.
 fn find_above(n: u64, sorted: &[u64]) -> u64
     ensures { IsNonDecreasing sorted.now → IsAbove n sorted.now result }
 {

@@ -1,6 +1,7 @@
 -- Marking alarms in a table: none, one after another, and the kinds of one statement.
 use Rattle.std.proofs.Common.{◌≡◌, ℕ, zero, suc, ◌+◌, ◌-◌, ◌*◌, ◌/◌, ◌%◌, ◌<◌, Bool, true, false, cond, ◌&&◌, ◌||◌, eqb, List, [], ◌∷◌, ◌++◌, length, get_or, set, sym, refl, ap, ◌∙◌, subst, arith, length-set, get_or-set_other, get_or-set_same, eqb-true}
 use borrow.Author.Tests.{eqb-false}
+use Rattle.std.proofs.Math.Bool.{and-false, and-or_distrib_left}
 use Rattle.std.proofs.lemmas.Bool.Decides.{nat_tests}
 use Rattle.program.specs.Basics.{any}
 use Rattle.analysis.specs.Reach.{Alarm, alarms_at}
@@ -47,22 +48,14 @@ mark_at : (b : Bool) (j : ℕ) (t : List ℕ) (i : ℕ) → i < length t → get
 mark_at false j t i h = refl
 mark_at true j t i h = at_set j t i (eqb i j) refl h
 
-and_false : (b : Bool) → false ≡ (b && false)
-and_false true = refl
-and_false false = refl
-
-and_or : (a b c : Bool) → ((a && b) || (a && c)) ≡ (a && (b || c))
-and_or true b c = refl
-and_or false b c = refl
-
 eqb_swap : (a b : ℕ) → eqb a b ≡ eqb b a
 eqb_swap a b = grind (arith, nat_tests)
 
 -- the alarms of one statement, at a statement and a kind
 has_at : (p : ℕ) (ks : List ℕ) (d k : ℕ) → has_alarm (alarms_at p ks) d k ≡ (eqb p d && any (eqb k) ks)
-has_at p [] d k = and_false (eqb p d)
+has_at p [] d k = sym (and-false (eqb p d))
 has_at p (x ∷ ks) d k =
-    ap (λ b. (eqb p d && eqb x k) || b) (has_at p ks d k) ∙ and_or (eqb p d) (eqb x k) (any (eqb k) ks)
+    ap (λ b. (eqb p d && eqb x k) || b) (has_at p ks d k) ∙ sym (and-or_distrib_left (eqb p d) (eqb x k) (any (eqb k) ks))
     ∙ ap (λ b. eqb p d && (b || any (eqb k) ks)) (eqb_swap x k)
 
 -- which of four flags stands at place r
