@@ -1,7 +1,6 @@
 mod Placed
 mod Words
 mod Arrays
-mod Inputs
 mod ReadyParts
 mod StmtParts
 mod Expressions

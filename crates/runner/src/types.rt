@@ -33,7 +33,7 @@ pub enum Stop {
     NoProgram,
 }
 
-// An expression's value, and where the expression ends.
+// An expression's value, and where the expression ends. It and the two behind it share no function, so each says in its own words what it holds.
 #[derive(Clone, Copy)]
 pub struct Value {
     pub value: u64,
