@@ -36,6 +36,7 @@ fn eval_from(code: &Code, pos: usize, left: usize, state: &Abstract) -> Evaluate
     ensures { (e : Expr) → ExprReady code.now.text.now pos left e →
         Evaluates (pos + length (encode_expr e)) (eval_interval code.now.lengths.now (env_in (as_abstract state.now)) e) result }
 {
+    // Both bounds at once: `get` would answer for the text's end alone.
     if left == 0 || pos >= code.text.len() {
         return nothing_at(pos);
     }

@@ -18,6 +18,7 @@ fn test_from(code: &Code, pos: usize, left: usize, ways: &mut Ways)
     ensures { (t : Test) → TestReady code.now.text.now pos left t →
         Splits (pos + length (encode_test t)) code.now.lengths.now (as_abstract ways.old.yes) t ways.new }
 {
+    // Both bounds at once: `get` would answer for the text's end alone.
     if left == 0 || pos >= code.text.len() {
         return;
     }

@@ -1,6 +1,5 @@
 // Why a text is no program.
 use grammar::Expected;
-use parser::expected_text;
 use std::fmt;
 
 #[derive(Clone, Copy)]
@@ -33,10 +32,7 @@ impl fmt::Display for Reason {
             Reason::NotText => f.write_str("not a text"),
             Reason::Character => f.write_str("a character that has no meaning here"),
             Reason::TooLarge => f.write_str("a number of 2^32 or more"),
-            Reason::Expected(what) => {
-                let words = expected_text(what);
-                write!(f, "expected {words}")
-            }
+            Reason::Expected(what) => write!(f, "expected {what}"),
             Reason::Undeclared => f.write_str("a word that is not declared so"),
             Reason::Twice => f.write_str("a word that is declared twice"),
             Reason::TooMany => f.write_str("one name or row too many"),

@@ -135,6 +135,7 @@ fn numbered_at(
 fn walk_at(task: &Task, pos: usize, left: usize, state: &mut Abstract, alarms: &mut [u64]) -> usize
     ensures { AtStmt task.now pos left (λ d stop. Walks task.now stop d state.old alarms.old state.new alarms.new result) }
 {
+    // Both bounds at once: `get` would answer for the text's end alone.
     if left == 0 || pos >= task.text.len() {
         return pos;
     }
@@ -151,6 +152,7 @@ fn walk_at(task: &Task, pos: usize, left: usize, state: &mut Abstract, alarms: &
 }
 
 // One pass through the statement at `pos`, of at most `left` bytes, from what is known and a table of alarms to those behind it; its end.
+// The way in stands apart from the recursion, which no other crate names.
 pub fn analyse_at(
     task: &Task,
     pos: usize,

@@ -133,6 +133,7 @@ fn pass_at(
 ) -> usize
     ensures { AtStmt watch.now.task pos left (λ d stop. Watches watch.now stop d state.old seen.old state.new seen.new result) }
 {
+    // Both bounds at once: `get` would answer for the text's end alone.
     if left == 0 || pos >= watch.task.text.len() {
         return pos;
     }
