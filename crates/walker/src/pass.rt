@@ -1,7 +1,8 @@
 // The pass through a statement by recursion over its bytes. What is known is one state that is lent down; a call of the recursion holds
 // numbers only, and states are held by value only at branches, loops and tests. A struct of what is handed down would be made anew at each
 // call, since the position changes with each, and the state at choices and loops. The first byte of a statement says what it is; it is read
-// here alone, so an enum of these bytes would be one more match over the same numbers.
+// here alone, so an enum of these bytes would be one more match over the same numbers. The crate above that watches a statement has a pass of its
+// own: one over both would say in a trait's laws what the two definitions say.
 ghost use Rattle.std.specs.Prelude.{◌<◌, length, slice_index};
 ghost use Rattle.program.specs.Syntax.{branch, loop};
 ghost use Rattle.walker.specs.Ready.{HasNumber};
