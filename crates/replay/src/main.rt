@@ -15,7 +15,8 @@ fn show(rt: &HostRuntime, answer: &Answer) -> anyhow::Result<()> {
         let bytes = row.bytes(heap)?;
         rt.println(hex_text(heap, bytes.as_slice())?)?;
     }
-    println!(rt; "end {}", answer.end)?;
+    let end = answer.end;
+    println!(rt; "end {end}")?;
     Ok(())
 }
 
