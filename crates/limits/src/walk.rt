@@ -32,7 +32,7 @@ struct Level {
     is_loop: bool,
 }
 
-// The choices and loops in which the walk stands, from the outermost on.
+// The choices and loops in which the walk stands, from the outermost on. They need no heap: to find a limit cannot fail.
 #[derive(Drop)]
 struct Nest {
     levels: ArrayVec<Level, DEPTH>,
@@ -41,14 +41,23 @@ struct Nest {
 impl Nest {
     // Leaves what has no statement left.
     fn close(&mut self) {
-        while self.levels.as_slice().last().is_some_and(|level| level.left == 0) {
+        while self
+            .levels
+            .as_slice()
+            .last()
+            .is_some_and(|level| level.left == 0)
+        {
             self.levels.pop();
         }
     }
 
     // How many of the levels are loops.
     fn loops(&self) -> u64 {
-        self.levels.as_slice().iter().filter(|level| level.is_loop).count() as u64
+        self.levels
+            .as_slice()
+            .iter()
+            .filter(|level| level.is_loop)
+            .count() as u64
     }
 
     // Goes into a choice or a loop.
