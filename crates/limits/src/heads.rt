@@ -6,7 +6,7 @@ use program::FIRST;
 use scanner::read_number;
 
 // How a statement goes on behind its own bytes.
-#[derive(Clone, Copy, PartialEq, Eq)]
+#[derive(Clone, Copy)]
 pub enum Opens {
     Nothing,
     Pair,
@@ -51,7 +51,7 @@ impl<'a> Head<'a> {
     }
 }
 
-// The head of the statement of this kind behind whose number these bytes stand.
+// The head of the statement whose first byte is this and behind whose number these bytes stand; none if there is no such kind.
 fn head_of<'a>(kind: u8, code: &'a [u8]) -> Option<Head<'a>>
     ensures { IfSome result (λ h. length h.rest.now ≤ length code.now) }
 {

@@ -1,7 +1,7 @@
 // Steps over the parts of an encoded program that need not be valid: what stands behind each.
 ghost use Rattle.std.specs.Prelude.{◌≤◌, length, IfSome};
 
-// Past an expression.
+// Past an expression. A loop that counts those to come, since such bytes may nest deep.
 pub fn skip_expr(code: &[u8]) -> Option<&[u8]>
     ensures { IfSome result (λ rest. length rest.now ≤ length code.now) }
 {

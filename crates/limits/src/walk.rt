@@ -32,7 +32,7 @@ struct Level {
     is_loop: bool,
 }
 
-// The choices and loops in which the walk stands, from the outermost on.
+// The choices and loops in which the walk stands, from the outermost on. They need no heap: to find a limit cannot fail.
 #[derive(Drop)]
 struct Nest {
     levels: ArrayVec<Level, DEPTH>,

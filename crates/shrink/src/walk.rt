@@ -54,7 +54,7 @@ pub fn next_at(text: &[u8], pos: usize) -> usize
     next.max(behind)
 }
 
-// Where the program's statements stand, in order.
+// Where the program's statements stand, in order: a list, which callers count and look up.
 pub fn places_of(heap: Global, text: &[u8]) -> Result<Vec<usize>, AllocError> {
     let mut places = Vec::new(heap);
     let mut pos = body_at(text);

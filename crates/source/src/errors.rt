@@ -57,7 +57,7 @@ impl From<LexError> for SourceError {
     }
 }
 
-// What is wrong, and at which token.
+// What is wrong, and at which token: a pair, which is no type that `From` could be written for.
 fn parse_reason(e: ParseError) -> (usize, Reason)
     ensures { (bs : List ℕ) (i : ℕ) → i ≤ length bs → Wrong bs i result.1 }
 {
