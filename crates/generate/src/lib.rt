@@ -2,6 +2,12 @@
 
 #![tactic(auto)]
 
+mod body;
+mod draft;
+mod expression;
+mod simple;
+mod statement;
+mod tags;
 mod whole;
 
 pub use whole::{Made, make_program};

@@ -1,8 +1,8 @@
 // A random program.
+use crate::draft::Draft;
 use random::Random;
 use std::alloc::{AllocError, Global};
 use valid::{ValidProgram, load_command};
-use writer::Draft;
 
 // A valid program, and the ends of its inputs' ranges.
 #[derive(Drop)]

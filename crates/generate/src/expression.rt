@@ -45,7 +45,7 @@ impl Draft {
     }
 
     // An operation with a number that seldom goes wrong: a sum, a quotient, a remainder, a product.
-    #[cycle(expression_index_tame)]
+    #[cycle(expressions)]
     fn tame(&mut self, depth: u32) -> Result<(), AllocError> {
         let n = 1 + self.random.below(10);
         let operator = match self.random.below(8) {
@@ -60,7 +60,7 @@ impl Draft {
     }
 
     // An index of the array, mostly one that it has.
-    #[cycle(expression_index_tame)]
+    #[cycle(expressions)]
     pub fn index(&mut self, array: u8, depth: u32) -> Result<(), AllocError> {
         let length = self.length(array);
         let within = self.random.below(length);
@@ -79,7 +79,7 @@ impl Draft {
     }
 
     // An expression of at most so many levels below the first.
-    #[cycle(expression_index_tame)]
+    #[cycle(expressions)]
     pub fn expression(&mut self, depth: u32) -> Result<(), AllocError> {
         if depth == 0 {
             return self.leaf();

@@ -93,7 +93,7 @@ impl Draft {
     }
 
     // A loop that counts up to a bound, or down from a number.
-    #[cycle(block_counted_statement)]
+    #[cycle(statements)]
     fn counted(&mut self, depth: u32, loops: u8) -> Result<(), AllocError> {
         let count = self.count(loops);
         self.unnumbered(Statement::Pair)?;
@@ -110,7 +110,7 @@ impl Draft {
     }
 
     // A statement with at most so many choices and loops around each other in it.
-    #[cycle(block_counted_statement)]
+    #[cycle(statements)]
     fn statement(&mut self, depth: u32, loops: u8) -> Result<(), AllocError> {
         if self.left == 0 {
             return self.unnumbered(Statement::Nothing);
@@ -138,7 +138,7 @@ impl Draft {
     }
 
     // Some statements, one after another.
-    #[cycle(block_counted_statement)]
+    #[cycle(statements)]
     pub(crate) fn block(&mut self, depth: u32, loops: u8) -> Result<(), AllocError> {
         let more = self.random.below(4);
         for _ in 0..more {

@@ -1,5 +1,5 @@
 use Rattle.std.proofs.Common.{◌+◌, ◌*◌}
-use Rattle.writer.proofs.draft.Draft.+expression_index_tame.Given as goal
+use Rattle.generate.proofs.draft.Draft.+expressions.Given as goal
 
 abbrev pub decreases-expression : goal.decreases-expression
 decreases-expression l = 2 * l.depth

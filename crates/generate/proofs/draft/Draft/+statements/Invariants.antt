@@ -1,5 +1,5 @@
 use Rattle.std.proofs.Common.{◌+◌, ◌*◌}
-use Rattle.writer.proofs.draft.Draft.+block_counted_statement.Given as goal
+use Rattle.generate.proofs.draft.Draft.+statements.Given as goal
 
 abbrev pub decreases-block : goal.decreases-block
 decreases-block l = 3 * l.depth + 1

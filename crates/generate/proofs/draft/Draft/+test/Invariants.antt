@@ -1,4 +1,4 @@
-use Rattle.writer.proofs.draft.Draft.+test.Given as goal
+use Rattle.generate.proofs.draft.Draft.+test.Given as goal
 
 abbrev pub decreases-test : goal.decreases-test
 decreases-test l = l.depth
