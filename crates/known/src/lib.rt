@@ -22,7 +22,7 @@ fn known_in(text: &[u8], header: &Header, stmt: u64) -> Abstract
     let watch = Watch { task, stmt };
     let mut state = Abstract::initial();
     let mut seen = Abstract::Unreached;
-    let _ = watch_at(&watch, header.body, text.len(), &mut state, &mut seen);
+    let _ = watch_at(&watch, header.body, task.text.len(), &mut state, &mut seen);
     seen
 }
 

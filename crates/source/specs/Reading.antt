@@ -4,6 +4,8 @@ use Rattle.std.specs.Str.{IsValidUpTo}
 use Rattle.lexer.specs.Lexing.{lexing, character, too_large}
 use Rattle.source.specs.declared.reason.Reason.{Reason}
 use Rattle.source.specs.declared.reason.Reason.TheVariants.{NoMemory, NotText, Character, TooLarge, Expected, Undeclared, Twice, TooMany, Length, Range, TooDeep, Nesting, Loops, LongTest, LongProgram, Invalid}
+use Rattle.limits.specs.declared.walk.Limit.{Limit}
+use Rattle.limits.specs.declared.walk.Limit.TheVariants as limit
 use Rattle.source.specs.declared.errors.SourceError.{SourceError}
 use Rattle.source.specs.declared.whole.Source.{Source}
 use Rattle.source.specs.Valid.{Encodes}
@@ -35,6 +37,13 @@ Wrong bs i Loops = i ≤ length bs
 Wrong bs i LongTest = i ≤ length bs
 Wrong bs i LongProgram = i ≤ length bs
 Wrong bs i Invalid = i ≤ length bs
+
+-- the reason that a limit is
+abbrev pub reason_of : Limit → Reason
+reason_of limit.Nesting = Nesting
+reason_of limit.Loops = Loops
+reason_of limit.LongTest = LongTest
+reason_of limit.LongProgram = LongProgram
 
 -- what the error says holds of the bytes
 abbrev pub Explains : List ℕ → SourceError → Type 0

@@ -1,7 +1,8 @@
 // Errors of lexer, parser and reader, as places in the text.
 ghost use Rattle.std.specs.Prelude.{◌≡◌, ℕ, ◌≤◌, List, length, Err};
+ghost use Rattle.source.specs.declared.reason.Reason.TheVariants.{NoMemory};
 ghost use Rattle.lexer.specs.Tokens.{Lexes};
-ghost use Rattle.source.specs.Reading.{Within, Wrong, Explains};
+ghost use Rattle.source.specs.Reading.{Within, Wrong, Explains, reason_of};
 
 use crate::reason::Reason;
 use crate::tables::start_of;
@@ -10,7 +11,6 @@ use lexer::LexError;
 use limits::{Limit, find_limit};
 use program::FIRST;
 use std::alloc::AllocError;
-use std::fmt;
 
 #[derive(Clone, Copy)]
 pub struct SourceError {
@@ -25,14 +25,8 @@ impl SourceError {
     };
 }
 
-impl fmt::Display for SourceError {
-    fn fmt<W: fmt::Write>(&self, f: &mut fmt::Formatter<W>) -> fmt::Result {
-        write!(f, "byte {}: {}", self.offset, self.reason)
-    }
-}
-
 impl From<AllocError> for SourceError {
-    ghost from_gives = { λ _ s. (bs : List ℕ) → Explains bs s };
+    ghost from_gives = { λ _ s. (s.reason ≡ NoMemory) × ((bs : List ℕ) → Explains bs s) };
 
     fn from(_e: AllocError) -> SourceError {
         SourceError::NO_MEMORY
@@ -85,7 +79,7 @@ pub fn parse_error(e: ParseError, starts: &[usize], end: usize) -> SourceError
 }
 
 impl From<Limit> for Reason {
-    ghost from_gives = { λ _ r. (bs : List ℕ) (i : ℕ) → i ≤ length bs → Wrong bs i r };
+    ghost from_gives = { λ l r. (r ≡ reason_of l) × ((bs : List ℕ) (i : ℕ) → i ≤ length bs → Wrong bs i r) };
 
     fn from(limit: Limit) -> Reason {
         match limit {
