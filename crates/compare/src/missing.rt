@@ -19,6 +19,7 @@ pub enum Missing {
     NoEnd { variable: usize, value: u64 },
 }
 
+// By the number of a kind, as `find_alarm` is asked and a row has it.
 fn is_alarm(row: Row, stmt: u64, kind: u64) -> bool
     ensures { Decides result (row ≡ Alarm stmt kind) }
 {

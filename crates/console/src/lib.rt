@@ -51,7 +51,7 @@ fn fault_text(kind: u64) -> &'static str
     }
 }
 
-// A refusal in words, of any number.
+// A refusal in words, of any number, since those that name no refusal have a word too.
 fn refusal_text(number: u64) -> &'static str
     ensures { result.now ≡ refusal_words number }
 {
@@ -63,7 +63,7 @@ fn refusal_text(number: u64) -> &'static str
     }
 }
 
-// An alarm in words.
+// An alarm in words, of any kind as `fault_text`.
 pub fn alarm_line(heap: Global, stmt: u64, kind: u64) -> Result<String, AllocError>
     ensures { IfOk result (λ s. string_bytes s ≡ alarm_words stmt kind) }
 {
@@ -78,7 +78,7 @@ pub fn bounds_line(heap: Global, name: u8, lo: u64, hi: u64) -> Result<String, A
     format!(in heap; "{name}: {lo} to {hi}")
 }
 
-// A refusal in words, with its number.
+// A refusal in words, with its number, of any as `refusal_text`.
 pub fn refusal_line(heap: Global, number: u64) -> Result<String, AllocError>
     ensures { IfOk result (λ s. string_bytes s ≡ refused_words number) }
 {

@@ -21,6 +21,7 @@ fn list(rt: &HostRuntime, path: &str) -> anyhow::Result<()> {
     Ok(())
 }
 
+// One chain in each program: a shared one would take the step as a closure, and be no shorter.
 fn run(rt: &HostRuntime) -> anyhow::Result<()> {
     env::args(rt)?
         .skip(1)

@@ -70,7 +70,7 @@ pub fn pair_at(text: &[u8], pos: usize, left: usize, state: &State) -> Result<Pa
 }
 
 // Whether the test at `pos`, of at most `left` bytes, holds, or why that is not known.
-// The second of two tests is worked out only if it matters. The first byte is asked for here alone.
+// The second of two tests is worked out only if it matters. The match on the first byte is the reading itself.
 pub fn test_at(text: &[u8], pos: usize, left: usize, state: &State) -> Result<Verdict, EvalError>
     ensures { TestsAt text.now state.now pos left result }
 {

@@ -34,7 +34,7 @@ fn apply(op: Operator, a: u64, b: u64) -> Result<u64, Fault>
 }
 
 // The expression at `pos`, of at most `left` bytes: its value, or why there is none.
-// The first byte says which expression it is: this reads it, and nothing else asks for it.
+// The match on the first byte is the reading itself: an enum between would be a second match over the same numbers.
 pub fn eval_at(text: &[u8], pos: usize, left: usize, state: &State) -> Result<Value, EvalError>
     ensures { EvaluatesAt text.now state.now pos left result }
 {

@@ -1,5 +1,5 @@
 // Steps over expressions, tests and statements that are not to be run: where each ends.
-// A first byte is asked for where it is read and nowhere else, so there is no enum of kinds.
+// Each match on a first byte is the reading itself: an enum between would be a second match over the same numbers.
 ghost use Rattle.runner.specs.Skipping.{ExprEnds, ExprsEnd, TestEnds, StmtEnds};
 
 use bytes_at::byte_at;

@@ -93,7 +93,7 @@ fn loop_at(
 }
 
 // The statement at `pos`, of at most `left` bytes: where it ends, or why the run stops.
-// The first byte says which statement it is: this reads it, and nothing else asks for it.
+// The match on the first byte is the reading itself: an enum between would be a second match over the same numbers.
 // `pos` and `left` differ in each call, each in its own way, so they are no struct.
 #[cycle(branch_at_loop_at_run_at)]
 pub fn run_at(task: &Task, pos: usize, left: usize, state: &mut State) -> Result<usize, Stop>
