@@ -13,7 +13,8 @@ use state::Abstract;
 use std::mem::swap;
 
 // The test at `pos`, of at most `left` bytes, in the state `ways.yes`; `ways` is what it tells then.
-// In place, so that a level of nesting copies a state once or twice, and none is passed by value.
+// In place, so that a level of nesting copies a state once or twice, and none is passed by value. The arms of `and` and `or` mirror each other:
+// one for both would choose a side in three places.
 fn test_from(code: &Code, pos: usize, left: usize, ways: &mut Ways)
     ensures { (t : Test) → TestReady code.now.text.now pos left t →
         Splits (pos + length (encode_test t)) code.now.lengths.now (as_abstract ways.old.yes) t ways.new }

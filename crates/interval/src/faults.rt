@@ -7,6 +7,7 @@ use crate::types::Faults;
 use program::Fault;
 
 impl Faults {
+    // No fault. By name, since callers mean the empty set, and not a default.
     pub fn none() -> Faults
         ensures { Faulty result [] }
     {

@@ -14,7 +14,7 @@ mod lattice;
 mod results;
 mod types;
 
-use program::Operator;
+use program::{OPERATORS, Operator};
 pub use types::{EvalResult, Faults, Interval};
 
 // What `reckon` answers. A fixed interface, and so no Option within a Result.
@@ -52,9 +52,6 @@ impl Refusal {
     }
 }
 
-// There are so many operations, numbered from 0.
-const OPERATIONS: u64 = 5;
-
 // An interval takes so many places.
 const PLACES: usize = 2;
 
@@ -79,7 +76,8 @@ fn put_result(res: EvalResult, out: &mut [u64]) -> Reply
     Reply::Spread(bits)
 }
 
-// The operation on what lies between two pairs of bounds, if the result has room in the slice.
+// The operation on what lies between two pairs of bounds, if the result has room in the slice. By number, as `reckon` is asked: its interface is
+// fixed.
 fn calculate(
     op: u64,
     first: (u64, u64),
@@ -88,7 +86,7 @@ fn calculate(
 ) -> Result<EvalResult, Refusal>
     ensures { Calculated op first.0 first.1 second.0 second.1 (refusal op first.0 first.1 second.0 second.1 out.now) result }
 {
-    if op >= OPERATIONS {
+    if op >= OPERATORS {
         return Err(Refusal::Operation);
     }
     let s = Interval::new(first.0, first.1).ok_or(Refusal::Bounds)?;

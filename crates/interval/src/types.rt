@@ -10,7 +10,7 @@ pub struct Interval {
     ghost small: { hi < 4294967296 },
 }
 
-// The kinds of faults that may happen, 1 to 4.
+// The kinds of faults that may happen: a set of the four.
 #[derive(Clone, Copy, PartialEq, Eq, Debug)]
 pub struct Faults {
     pub overflow: bool,

@@ -12,7 +12,7 @@ alarms         list where the program can go wrong
 at the end N   tell where variable N lies when a run ends
 help           show these lines";
 
-// The number by which the machine refuses what is no command.
+// The number by which the machine refuses what is no command; a session gives it as the machine does.
 const NO_COMMAND: u64 = 1;
 
 fn refuse(rt: &HostRuntime, number: u64) -> io::Result<()> {

@@ -12,6 +12,7 @@ pub enum LexError {
     TooLarge(usize),
 }
 
+// Both errors, since a copy of bytes has the one and a push the other.
 impl From<AllocError> for LexError {
     ghost from_gives = { λ _ r. r ≡ NoMemory };
 

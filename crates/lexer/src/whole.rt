@@ -37,6 +37,7 @@ pub fn lex<'a>(heap: Global, text: &'a str) -> Result<Lexed<'a>, LexError>
     let mut starts = Vec::new(heap);
     let mut words = Vec::new(heap);
     let mut at = blanks_end(text.as_bytes(), 0);
+    // From one token's end to the next, since where each begins is wanted.
     while at < text.len() {
         let (piece, end) = piece_at(text, at)?;
         tokens.push(token_of(piece, &mut words)?)?;

@@ -51,7 +51,8 @@ impl<'a> Head<'a> {
     }
 }
 
-// The head of the statement whose first byte is this and behind whose number these bytes stand; none if there is no such kind.
+// The head of the statement whose first byte is this and behind whose number these bytes stand; none if there is no such kind. The match on the
+// byte is the decoding itself, done here alone.
 fn head_of<'a>(kind: u8, code: &'a [u8]) -> Option<Head<'a>>
     ensures { IfSome result (λ h. length h.rest.now ≤ length code.now) }
 {

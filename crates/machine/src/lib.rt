@@ -17,9 +17,9 @@ pub use tables::Told;
 use tables::{CURSOR, ROW, WORDS, show_end, show_from};
 
 // A step takes a command, or goes on with the last one. The kinds are numbers, as C gives them.
-const COMMAND: u64 = 0;
+pub const COMMAND: u64 = 0;
 
-const GO_ON: u64 = 1;
+pub const GO_ON: u64 = 1;
 
 // The step that a command asks for.
 fn obey(memory: &mut [u64; WORDS], text: &[u8], out: &mut [u8; ROW]) -> Told

@@ -25,7 +25,7 @@ pub fn header(heap: Global, variables: u8, arrays: &[Array]) -> Result<Vec<u8>, 
 }
 
 impl<'a> Parser<'a> {
-    // The head of a numbered statement that begins at a place: its tag and its number.
+    // The head of a numbered statement that begins at a place: its tag and its number. Each tag stands once, where its statement is written.
     pub fn write_head(&mut self, tag: u8, place: usize) -> Result<(), AllocError>
         ensures { ReadsOn self.old self.new }
     {

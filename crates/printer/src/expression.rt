@@ -8,7 +8,7 @@ use crate::write::Printer;
 use program::Operator;
 use std::alloc::AllocError;
 
-// An operator's sign, with spaces around it.
+// An operator's sign, with spaces around it. No Display, since it is put as it is.
 fn sign(op: Operator) -> &'static str
     ensures { result.now ≡ sign_text (operator_code op) }
 {

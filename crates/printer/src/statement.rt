@@ -9,7 +9,8 @@ use std::alloc::AllocError;
 // Deeper levels are not indented more than this one.
 const DEEPEST: usize = 16;
 
-// The first bytes of a statement that does nothing, and of a sequence: they have no number.
+// The first bytes of a statement that does nothing, and of a sequence: they have no number. They are asked for ahead of the match that prints
+// statements, where brackets and `else` depend on them.
 const SKIP: u8 = 0;
 
 const SEQ: u8 = 5;

@@ -7,5 +7,8 @@ mod limits;
 mod operator;
 
 pub use fault::Fault;
-pub use limits::{ARRAYS, BYTES, ELEMENTS, FIRST, LIMIT, LOOPS, NESTING, TESTS, VARIABLES};
+pub use limits::{
+    ALARMS, ARRAYS, AT_END, BYTES, ELEMENTS, FIRST, LIMIT, LOAD, LOOPS, NESTING, OPERATORS, TESTS,
+    VARIABLES,
+};
 pub use operator::Operator;

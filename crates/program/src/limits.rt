@@ -24,5 +24,17 @@ pub const LOOPS: u64 = 3;
 /// A condition is made of at most so many tests.
 pub const TESTS: u64 = 63;
 
+/// There are so many operators.
+pub const OPERATORS: u64 = 5;
+
 /// The first statement has this number.
 pub const FIRST: u64 = 1;
+
+/// A command begins with one of these bytes: it loads a program,
+pub const LOAD: u8 = 1;
+
+/// asks for the alarms,
+pub const ALARMS: u8 = 2;
+
+/// or where a variable lies at the end.
+pub const AT_END: u8 = 3;

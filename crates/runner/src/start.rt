@@ -4,11 +4,8 @@ ghost use Rattle.runner.specs.Starting.{Counts, ArraysMade, Starts};
 
 use crate::types::{RunError, State};
 use bytes_at::{byte_at, word_at};
-use program::{ARRAYS, ELEMENTS};
+use program::{ARRAYS, ELEMENTS, LOAD};
 use std::alloc::Global;
-
-// The first byte of a command that loads a program.
-const LOAD: u8 = 1;
 
 // How many arrays the program has; none if this is no program.
 fn array_count(text: &[u8]) -> Option<usize>
@@ -27,6 +24,7 @@ fn arrays_of(heap: Global, text: &[u8], count: usize) -> Result<Vec<Vec<u64>>, R
     ensures { ArraysMade text.now count result }
 {
     let mut arrays = Vec::new(heap);
+    // By number: a chain could not say which length is refused.
     for i in 0..count {
         let length = word_at(text, 10 + 8 * i);
         if length > ELEMENTS {

@@ -9,10 +9,7 @@ ghost use Rattle.scanner.specs.Trees.{test_form, assign_form, store_form, input_
 ghost use Rattle.std.specs.Option.{option_map};
 
 use crate::bytes::{byte_at, read_number};
-use program::{LIMIT, TESTS};
-
-// There are so many operators.
-const OPERATORS: u64 = 5;
+use program::{LIMIT, OPERATORS, TESTS};
 
 fn is_number(n: u64) -> bool
     ensures { result ≡ nat_lt n limit }

@@ -35,7 +35,7 @@ impl Row {
     }
 }
 
-// The row in the first `n` bytes.
+// The row in the first `n` bytes, as many as `Told::Shows` tells.
 pub fn read_row(out: &[u8; ROW], n: u64) -> Row
     requires { (n ≡ 9) ⊎ (n ≡ 16) }
     ensures bytes { row_bytes result ≡ take n out.now }

@@ -3,7 +3,7 @@ ghost use Rattle.std.specs.Prelude.{◌≡◌, length, IfOk, OnErr};
 ghost use Rattle.session.specs.Answers.{Ended, Kept};
 
 use crate::rows::{Row, read_row};
-use machine::{Told, step};
+use machine::{COMMAND, GO_ON, Told, step};
 use std::alloc::{AllocError, Global};
 use tables::ROW;
 
@@ -22,13 +22,13 @@ pub fn run_command(memory: &mut [u64], heap: Global, text: &[u8]) -> Result<Answ
 {
     let mut out = [0u8; ROW];
     let mut rows = Vec::new(heap);
-    let mut kind = 0;
+    let mut kind = COMMAND;
     loop {
         match step(memory, kind, text, &mut out) {
             Told::Shows(n) => rows.push(read_row(&out, n))?,
             Told::Done => return Ok(Answer { rows, end: 0 }),
             Told::No(number) => return Ok(Answer { rows, end: number }),
         }
-        kind = 1;
+        kind = GO_ON;
     }
 }

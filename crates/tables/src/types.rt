@@ -1,4 +1,4 @@
-// What a step tells.
+// What a step tells. A fixed interface, which C has as one number: so the numbers of refusals stay.
 #[derive(Clone, Copy)]
 pub enum Told {
     // So many bytes are shown.

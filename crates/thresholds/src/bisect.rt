@@ -45,7 +45,8 @@ pub fn below(n: u64, sorted: &[u64]) -> u64
     find_below(n, sorted).min(n)
 }
 
-// The interval a, where a bound that b passes goes on to the next threshold.
+// The interval a, where a bound that b passes goes on to the next threshold. `Interval::widen_to` would be given both thresholds; here only those
+// of bounds that are passed are looked for.
 pub fn widen(a: Interval, b: Interval, sorted: &[u64]) -> Interval
     ensures { IsNonDecreasing sorted.now → as_interval result ≡ widen_interval sorted.now (as_interval a) (as_interval b) }
 {

@@ -3,7 +3,7 @@ ghost use Rattle.std.specs.Prelude.{suc, ◌-◌, ◌≤◌, [], ◌∷◌, leng
 
 use program::LIMIT;
 
-/// A text that is walked over, and a table whose first `count` slots hold the thresholds so far.
+/// A text that is walked over, and a table whose first `count` slots hold the thresholds so far. The table is lent, since there is no heap here.
 #[derive(Drop)]
 pub struct Collector<'a> {
     pub text: &'a [u8],
@@ -15,7 +15,7 @@ pub struct Collector<'a> {
 impl<'a> Collector<'a> {
     ghost use Rattle.thresholds.specs.Collecting.{SameLoans, Writes};
 
-    // The threshold is put behind those before it, if it is a number.
+    // The threshold is put behind those before it, if it is a number. By index: a proof knows nothing of a slice after `get_mut`.
     fn push(&mut self, m: u64)
         ensures same { SameLoans self.old self.new }
         ensures writes { Writes (m ∷ []) self.old self.new }

@@ -1,10 +1,8 @@
 // The command that loads a program, from the program's own bytes.
 ghost use Rattle.std.specs.Prelude.{◌≡◌, ◌∷◌, IfOk};
 
+use program::LOAD;
 use std::alloc::{AllocError, Global};
-
-// The first byte of a command that loads a program.
-const LOAD: u8 = 1;
 
 /// The command that loads the program with these bytes, valid or not.
 pub fn load_command(heap: Global, program: &[u8]) -> Result<Vec<u8>, AllocError>

@@ -18,7 +18,7 @@ fn mark(table: &mut [u64], slot: usize, there: bool)
     }
 }
 
-// The kinds of faults that a statement may have. An empty table records nothing.
+// The kinds of faults that a statement may have. An empty table records nothing: any table may be lent, so no Option says it.
 pub fn mark_faults(table: &mut [u64], stmt: u64, faults: Faults)
     ensures { (ks : List ℕ) → Faulty faults ks → Marked (alarms_at stmt ks) table.old table.new }
 {

@@ -7,6 +7,7 @@ ghost use Rattle.session.specs.Sessions.{Holds, held_words};
 
 use super::Session;
 use crate::run::{Answer, run_command};
+use program::{ALARMS, AT_END};
 use std::alloc::{AllocError, Global};
 use tables::WORDS;
 use valid::load_command;
@@ -36,7 +37,7 @@ impl Session {
         ensures faults { IfOk result (λ a. (p : Program) → Holds self.old p → FaultsShown (2 ∷ []) a.rows.items p) }
         ensures kept { OnErr result (Kept (held_words self.old) (held_words self.new)) }
     {
-        self.tell(heap, &[2])
+        self.tell(heap, &[ALARMS])
     }
 
     // Where variable `x` lies when a run ends: every value that it can end with is within.
@@ -45,7 +46,7 @@ impl Session {
         ensures ends { IfOk result (λ a. (p : Program) → Holds self.old p → EndsShown (3 ∷ x ∷ []) a.rows.items p) }
         ensures kept { OnErr result (Kept (held_words self.old) (held_words self.new)) }
     {
-        self.tell(heap, &[3, x])
+        self.tell(heap, &[AT_END, x])
     }
 
     // The program from now on, given as its bytes.
