@@ -6,9 +6,9 @@ use Rattle.interval.proofs.Reckoning.{bounds_refused}
 use Rattle.interval.proofs.Operators.{operation_of}
 use Rattle.interval.proofs.calculate.Goals as goal
 
-pub returns-then-op-ge-OPERATIONS : goal.returns-then-op-ge-OPERATIONS
+pub returns-then-op-ge-OPERATORS : goal.returns-then-op-ge-OPERATORS
 unfolding refusal
-returns-then-op-ge-OPERATIONS c = grind (arith, nat_tests)
+returns-then-op-ge-OPERATORS c = grind (arith, nat_tests)
 
 pub returns-in_err-s : goal.returns-in_err-s
 unfolding refusal
