@@ -70,3 +70,18 @@ pub fn is_valid(heap: Global, program: &[u8], sizes: Sizes) -> Result<bool, Allo
     };
     Ok(found == sizes)
 }
+
+#[cfg(test)]
+mod tests {
+    use std::test::Fail;
+    use valid::load_command;
+
+    // A command is made, and has its first byte before the program's.
+    #[test]
+    fn command_of_a_program(rt: HostRuntime) -> Result<(), Fail> {
+        let command = load_command(rt.alloc(), &[7, 8])?;
+        assert!(rt; command.len() == 3);
+        assert!(rt; command.as_slice().first() == Some(&1));
+        Ok(())
+    }
+}
