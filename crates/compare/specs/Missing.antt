@@ -1,6 +1,5 @@
 -- What a report lacks. Assumes nothing: these are definitions.
 use Rattle.std.specs.Prelude.{◌≡◌, ℕ, ◌<◌, Bool, true, false, List, [], length, Some, None, vec_items, Option, slice_index, slice_index_or}
-use Rattle.program.specs.Kinds.{fault_number}
 use Rattle.runner.specs.Whole.{as_outcome}
 use Rattle.runner.specs.declared.types.Outcome.{Outcome}
 use Rattle.runner.specs.declared.types.Outcome.TheVariants.{Finished, Fault, OutOfRounds}
@@ -29,12 +28,12 @@ Outside ends values (Some x) = (x < length ends) × (InRow (slice_index_or ends 
 
 -- the run has this fault and it is no alarm, or ends with this value of the variable and it is not within the bounds
 abbrev pub Lacks : Report → Outcome → Missing → Type 0
-Lacks rep (Fault d f) (NoAlarm e g) = (e ≡ d) × (g ≡ f) × (Has (Alarm d (fault_number f)) (vec_items rep.alarms) → ⊥)
-Lacks rep (Fault d f) (NoEnd x v) = ⊥
-Lacks rep (Finished s) (NoAlarm e g) = ⊥
+Lacks rep (Fault d k) (NoAlarm e j) = (e ≡ d) × (j ≡ k) × (Has (Alarm d k) (vec_items rep.alarms) → ⊥)
+Lacks rep (Fault d k) (NoEnd x v) = ⊥
+Lacks rep (Finished s) (NoAlarm e j) = ⊥
 Lacks rep (Finished s) (NoEnd x v) =
     (x < length (vec_items rep.ends)) × (v ≡ slice_index (vec_items s.values) x) × (InRow (slice_index_or (vec_items rep.ends) x None) v → ⊥)
-Lacks rep OutOfRounds (NoAlarm e g) = ⊥
+Lacks rep OutOfRounds (NoAlarm e j) = ⊥
 Lacks rep OutOfRounds (NoEnd x v) = ⊥
 
 -- nothing is missing just if the report tells how the run ended

@@ -5,7 +5,6 @@ ghost use Rattle.findings.specs.Told.{InRow};
 ghost use Rattle.compare.specs.Missing.{Decides, AlarmFound, Outside, Finds};
 
 use findings::Report;
-use program::Fault;
 use runner::Outcome;
 use session::Row;
 use std::fmt;
@@ -13,8 +12,8 @@ use std::fmt;
 // What a run shows that the report lacks.
 #[derive(Clone, Copy)]
 pub enum Missing {
-    // A fault at a statement that is no alarm.
-    NoAlarm { stmt: u64, fault: Fault },
+    // A fault of a kind at a statement that is no alarm.
+    NoAlarm { stmt: u64, kind: u64 },
     // A variable's value at the end that is not within its bounds.
     NoEnd { variable: usize, value: u64 },
 }
@@ -64,9 +63,9 @@ pub fn find_missing(report: &Report, outcome: &Outcome) -> Option<Missing>
 {
     match outcome {
         Outcome::OutOfRounds => None,
-        &Outcome::Fault { stmt, fault } => match find_alarm(&report.alarms, stmt, fault.number()) {
+        &Outcome::Fault { stmt, kind } => match find_alarm(&report.alarms, stmt, kind) {
             Some(_) => None,
-            None => Some(Missing::NoAlarm { stmt, fault }),
+            None => Some(Missing::NoAlarm { stmt, kind }),
         },
         Outcome::Finished(state) => {
             outside(&report.ends, &state.values).map(|variable| Missing::NoEnd {
@@ -80,9 +79,7 @@ pub fn find_missing(report: &Report, outcome: &Outcome) -> Option<Missing>
 impl fmt::Display for Missing {
     fn fmt<W: fmt::Write>(&self, f: &mut fmt::Formatter<W>) -> fmt::Result {
         match *self {
-            Missing::NoAlarm { stmt, fault } => {
-                write!(f, "fault {} at statement {stmt}", fault.number())
-            }
+            Missing::NoAlarm { stmt, kind } => write!(f, "fault {kind} at statement {stmt}"),
             Missing::NoEnd { variable, value } => write!(
                 f,
                 "{value} at the end of variable {variable}"

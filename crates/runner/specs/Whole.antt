@@ -1,6 +1,5 @@
 -- What is found when a whole program is run. Assumes nothing: these are definitions.
 use Rattle.std.specs.Prelude.{◌≡◌, ℕ, List, Ok, Err, Result}
-use Rattle.program.specs.Kinds.{fault_number}
 use Rattle.program.specs.Syntax.{Program}
 use Rattle.program.specs.Semantics.{Outcome as PlainOutcome, finished, fault, out_of_rounds, run_program}
 use Rattle.runner.specs.Of.{as_state}
@@ -13,7 +12,7 @@ use Rattle.runner.specs.declared.types.RunError.TheVariants.{NoMemory, NoProgram
 -- the outcome of a run on these inputs
 abbrev pub as_outcome : List ℕ → Outcome → PlainOutcome
 as_outcome ins (Finished m) = finished (as_state ins m)
-as_outcome ins (Fault p f) = fault p (fault_number f)
+as_outcome ins (Fault p k) = fault p k
 as_outcome ins OutOfRounds = out_of_rounds
 
 -- of every valid program that the text loads, the outcome is that of its run; without memory nothing is said, and a text that is refused loads no program

@@ -24,7 +24,10 @@ pub fn run_program<'a>(
     let body = 10 + 8 * state.arrays.len();
     match run_at(&task, body, text.len(), &mut state) {
         Ok(_) => Ok(Outcome::Finished(state)),
-        Err(Stop::Fault { stmt, fault }) => Ok(Outcome::Fault { stmt, fault }),
+        Err(Stop::Fault { stmt, fault }) => Ok(Outcome::Fault {
+            stmt,
+            kind: fault.number(),
+        }),
         Err(Stop::OutOfRounds) => Ok(Outcome::OutOfRounds),
         Err(Stop::NoProgram) => Err(RunError::NoProgram),
     }

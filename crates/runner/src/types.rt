@@ -55,11 +55,12 @@ pub struct Pair {
     pub end: usize,
 }
 
-// How a program's run went: to its end, in a state; to a fault at a statement; or it used up its rounds.
+// How a program's run went: to its end, in a state; to a fault of a kind at a statement; or it used up its rounds. The kind is its number, as a
+// row has it: a report may be asked for a fault of any.
 #[derive(Drop)]
 pub enum Outcome {
     Finished(State),
-    Fault { stmt: u64, fault: Fault },
+    Fault { stmt: u64, kind: u64 },
     OutOfRounds,
 }
 

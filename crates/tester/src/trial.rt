@@ -25,8 +25,8 @@ pub struct Failure {
 
 // Marks the alarm that the run met, if it met one.
 fn mark(report: &Report, outcome: &Outcome, met: &mut [bool]) {
-    if let Outcome::Fault { stmt, fault } = outcome
-        && let Some(i) = find_alarm(report.alarms.as_slice(), *stmt, fault.number())
+    if let Outcome::Fault { stmt, kind } = outcome
+        && let Some(i) = find_alarm(report.alarms.as_slice(), *stmt, *kind)
         && let Some(flag) = met.get_mut(i)
     {
         *flag = true;

@@ -1,4 +1,4 @@
-use Rattle.std.proofs.Common.{ℕ, List, [], sym, subst}
+use Rattle.std.proofs.Common.{List, [], sym, subst}
 use Rattle.runner.specs.Whole.{as_outcome}
 use Rattle.runner.specs.declared.types.Outcome.{Outcome}
 use Rattle.session.specs.Rows.{Has}
@@ -12,5 +12,5 @@ pub returns-in-Some : goal.returns-in-Some
 returns-in-Some c =
     let found = has_at _ _ c.in-Some.field-0 c.in-Some.ensures.0 c.in-Some.ensures.1 in
     subst (λ (o : Outcome). Tells c.args.report.now (as_outcome [] o)) (sym c.in-Fault.is)
-    (subst (λ (k : ℕ). Has (Alarm c.in-Fault.stmt k) c.args.report.now.alarms.items) c.number.ensures
-    (subst (λ (rows : List Row). Has (Alarm c.in-Fault.stmt c.number.result) rows) c.deref.ensures.value found))
+    (subst (λ (rows : List Row). Has (Alarm c.in-Fault.stmt c.in-Fault.kind) rows) c.deref.ensures.value
+    (has_at _ _ c.in-Some.field-0 c.in-Some.ensures.0 c.in-Some.ensures.1))

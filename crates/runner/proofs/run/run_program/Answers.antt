@@ -12,7 +12,7 @@ pub returns-in-Err-Fault : goal.returns-in-Err-Fault
 returns-in-Err-Fault c p h =
     let b = c.in_ok-state.ensures.starts p h in
     let f = rw c.in-Err-Fault.field-0-is at c.in-Err-Fault.ensures in
-    comes_to _ p _ _ _ (b.state c.args.inputs.now) (f p.body (body_ready _ p h _ (omega (arith, c.len.ensures, b.count_is))))
+    rw c.number.ensures (comes_to _ p _ _ _ (b.state c.args.inputs.now) (f p.body (body_ready _ p h _ (omega (arith, c.len.ensures, b.count_is)))))
 
 pub returns-in-Err-OutOfRounds : goal.returns-in-Err-OutOfRounds
 returns-in-Err-OutOfRounds c p h =
