@@ -1,6 +1,6 @@
 // The arithmetic of intervals, with the faults that it may have.
 ghost use Rattle.std.specs.Prelude.{◌≡◌, ℕ, ◌<◌, ◌≤◌, [], ◌∷◌, if◌then◌else◌, nat_eq};
-ghost use Rattle.program.specs.Kinds.{operator_code, fault_number};
+ghost use Rattle.program.specs.Kinds.{operator_code, operator_of, fault_number};
 ghost use Rattle.interval.specs.Interval.{Interval as PlainInterval};
 ghost use Rattle.interval.specs.Arithmetic.{capped, quotient, remainder, divided, interval_op, element_of};
 ghost use Rattle.interval.specs.Of.{as_interval, Faulty, Says};
@@ -120,8 +120,16 @@ impl Interval {
         divided(remainder, self, other)
     }
 
-    // An operation on two intervals.
-    pub fn apply(op: Operator, a: Interval, b: Interval) -> EvalResult
+    // An operation on two intervals, by its operator or by the operator's number: all numbers from 4 on are a remainder's.
+    pub fn apply<O: Into<Operator>>(op: O, a: Interval, b: Interval) -> EvalResult
+        ensures operator { (o : Operator) × O.converts op o × Says result (interval_op (operator_code o) (as_interval a) (as_interval b)) }
+        ensures number { (k : ℕ) → ((o : Operator) → O.converts op o → o ≡ operator_of k) → Says result (interval_op k (as_interval a) (as_interval b)) }
+    {
+        Interval::operate(op.into(), a, b)
+    }
+
+    // An operation by its operator.
+    pub(crate) fn operate(op: Operator, a: Interval, b: Interval) -> EvalResult
         ensures { Says result (interval_op (operator_code op) (as_interval a) (as_interval b)) }
     {
         match op {

@@ -14,7 +14,7 @@ mod lattice;
 mod results;
 mod types;
 
-use program::{OPERATORS, Operator};
+use program::OPERATORS;
 pub use types::{EvalResult, Faults, Interval};
 
 // What `reckon` answers. A fixed interface, and so no Option within a Result.
@@ -94,7 +94,7 @@ fn calculate(
     if out.len() < PLACES {
         return Err(Refusal::Room);
     }
-    Ok(Interval::apply(Operator::from(op), s, t))
+    Ok(Interval::apply(op, s, t))
 }
 
 // The operation on what lies from `a` to `b` and from `c` to `d`.

@@ -1,6 +1,6 @@
 // What expressions come to, put together.
-ghost use Rattle.std.specs.Prelude.{◌≡◌};
-ghost use Rattle.program.specs.Kinds.{operator_code};
+ghost use Rattle.std.specs.Prelude.{◌≡◌, ℕ};
+ghost use Rattle.program.specs.Kinds.{operator_code, operator_of};
 ghost use Rattle.interval.specs.Arithmetic.{EvalResult as PlainResult, combined, element_by};
 ghost use Rattle.interval.specs.Of.{as_interval, after_faults, Says};
 
@@ -18,8 +18,16 @@ impl EvalResult {
         }
     }
 
-    // An operation on what two expressions come to; the second counts only if the first can come to a value.
-    pub fn combine(op: Operator, a: EvalResult, b: EvalResult) -> EvalResult
+    // An operation on what two expressions come to, by its operator or by the operator's number.
+    pub fn combine<O: Into<Operator>>(op: O, a: EvalResult, b: EvalResult) -> EvalResult
+        ensures operator { (o : Operator) × O.converts op o × ((v w : PlainResult) → Says a v → Says b w → Says result (combined (operator_code o) v w)) }
+        ensures number { (k : ℕ) → ((o : Operator) → O.converts op o → o ≡ operator_of k) → (v w : PlainResult) → Says a v → Says b w → Says result (combined k v w) }
+    {
+        EvalResult::combined(op.into(), a, b)
+    }
+
+    // The same by its operator; the second result counts only if the first can come to a value.
+    fn combined(op: Operator, a: EvalResult, b: EvalResult) -> EvalResult
         ensures { (v w : PlainResult) → Says a v → Says b w → Says result (combined (operator_code op) v w) }
     {
         let Some(s) = a.interval else {
@@ -28,7 +36,7 @@ impl EvalResult {
         let Some(t) = b.interval else {
             return b.after(a.faults);
         };
-        Interval::apply(op, s, t).after(b.faults).after(a.faults)
+        Interval::operate(op, s, t).after(b.faults).after(a.faults)
     }
 
     // An element of an array of `len` elements, which all lie in `array`, where this is what the index comes to.

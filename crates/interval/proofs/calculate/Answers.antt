@@ -3,7 +3,6 @@ use Rattle.std.proofs.Common.{arith}
 use Rattle.std.proofs.lemmas.Bool.Decides.{nat_tests}
 use Rattle.interval.specs.Entry.{refusal}
 use Rattle.interval.proofs.Reckoning.{bounds_refused}
-use Rattle.interval.proofs.Operators.{operation_of}
 use Rattle.interval.proofs.calculate.Goals as goal
 
 pub returns-then-op-ge-OPERATORS : goal.returns-then-op-ge-OPERATORS
@@ -37,4 +36,4 @@ unfolding refusal
 returns c =
     let s = rw c.in_ok-s.ensures.ok_part at c.new.ensures in
     let t = rw c.in_ok-t.ensures.ok_part at c.new-2.ensures in
-    (grind (arith, nat_tests), rw (operation_of c.args.op _ _, ← c.from.ensures, ← s.0, ← s.1, ← t.0, ← t.1) c.apply.ensures)
+    (grind (arith, nat_tests), rw (← s.0, ← s.1, ← t.0, ← t.1) (c.apply.ensures.number c.args.op (λ o e. e)))

@@ -39,8 +39,9 @@ returns-in-2 t c e ready =
     let a = c.eval_from-a.ensures h.a (left_ready _ _ _ e ready h _ next) in
     let mid : c.eval_from-a.result.end ≡ c.args.pos + 2 + length (encode_expr h.a) = omega (arith, a.end, next) in
     let b = c.eval_from-b.ensures h.b (right_ready _ _ _ e ready h _ mid) in
+    let o = c.combine.ensures.operator in
     record {
-      result = binary_says _ _ _ _ e h c.byte_at-in-2.result c.from.result _ c.byte_at-in-2.ensures c.from.ensures (c.combine.ensures _ _ a.result b.result);
+      result = binary_says _ _ _ _ e h c.byte_at-in-2.result c.from.result _ c.byte_at-in-2.ensures c.from.ensures ((rw o.1 at o.2) _ _ a.result b.result);
       end = omega (arith, h.long, mid, b.end);
     }
 
