@@ -1,12 +1,12 @@
 // Rows shown from the memory: alarms, one after another, and a variable's interval at the end.
-ghost use Rattle.std.specs.Prelude.{◌≡◌, ◌<◌, ◌++◌, drop};
+ghost use Rattle.std.specs.Prelude.{◌≡◌, ◌<◌, ◌≤◌, ◌++◌, length, drop};
 ghost use Rattle.std.specs.List.{position};
 ghost use Rattle.model.specs.Machine.{slot_row, mark_from, show_from, show_end};
 ghost use Rattle.tables.specs.Telling.{StepTold};
 ghost use Rattle.tables.specs.Slots.{is_mark, Finds};
 
 use crate::bytes::write_number;
-use crate::layout::{CURSOR, ENDS, NO_END, ROW, SCRATCH, SLOTS, TABLE, VARS, WORDS};
+use crate::layout::{CURSOR, ENDS, NO_END, SCRATCH, SLOTS, TABLE, VARS, WORDS};
 use crate::types::Told;
 
 // Where the first mark is.
@@ -26,16 +26,18 @@ fn find_mark(memory: &[u64; WORDS], cursor: usize) -> Option<usize>
 }
 
 // The alarm of a slot, in nine bytes: its statement, then its kind.
-fn write_alarm(out: &mut [u8; ROW], slot: usize)
-    requires { slot < 10920 }
+fn write_alarm(out: &mut [u8], slot: usize)
+    requires { (16 ≤ length out.old) × (slot < 10920) }
     ensures { out.new ≡ slot_row slot ++ drop 9 out.old }
 {
     write_number(out, 0, slot as u64 / 4 + 1);
     out[8] = (slot % 4 + 1) as u8;
 }
 
-// The first alarm from `cursor` on is shown and the cursor moved behind it; if there is none, the command has ended.
-pub fn show_from(memory: &mut [u64; WORDS], cursor: usize, out: &mut [u8; ROW]) -> Told
+// The first alarm from `cursor` on is shown and the cursor moved behind it; if there is none, the command has ended. The row stands at the front
+// of what is lent, which may be longer.
+pub fn show_from(memory: &mut [u64; WORDS], cursor: usize, out: &mut [u8]) -> Told
+    requires { 16 ≤ length out.old }
     ensures { StepTold (show_from memory.old cursor) out.old result memory.new out.new }
 {
     match find_mark(memory, cursor) {
@@ -52,8 +54,8 @@ pub fn show_from(memory: &mut [u64; WORDS], cursor: usize, out: &mut [u8; ROW]) 
 }
 
 // Variable x's interval at the end is shown; nothing is if no run comes to an end, and there must be such a variable.
-pub fn show_end(memory: &mut [u64; WORDS], x: usize, out: &mut [u8; ROW]) -> Told
-    requires { x < 64 }
+pub fn show_end(memory: &mut [u64; WORDS], x: usize, out: &mut [u8]) -> Told
+    requires { (x < 64) × (16 ≤ length out.old) }
     ensures { StepTold (show_end memory.old x) out.old result memory.new out.new }
 {
     if x as u64 >= memory[VARS] {

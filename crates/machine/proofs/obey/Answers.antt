@@ -4,7 +4,7 @@ use Rattle.machine.proofs.Stepping.{obeyed_load, obeyed_alarms, obeyed_end, obey
 use Rattle.machine.proofs.obey.Goals as goal
 
 pub show_end-requires : goal.show_end-requires
-show_end-requires c = variable_small c.args.text.now c.in-AtEnd.x (end_asked _ _ _ c.in-AtEnd.is c.in-Some.ensures)
+show_end-requires c = (variable_small c.args.text.now c.in-AtEnd.x (end_asked _ _ _ c.in-AtEnd.is c.in-Some.ensures), omega arith)
 
 pub returns-in-Load : goal.returns-in-Load
 returns-in-Load c =
