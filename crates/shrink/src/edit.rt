@@ -6,9 +6,12 @@ use std::alloc::{AllocError, Global};
 use std::ops::Range;
 use valid::ValidProgram;
 
-// The number in the eight bytes at a position, as many as there are.
+// The number in the eight bytes at a position, as many as there are. The bytes before are not gone through: `skip` would count over each.
 fn put_word(text: &mut [u8], pos: usize, n: u64) {
-    for (byte, digit) in text.iter_mut().skip(pos).zip(n.to_be_bytes()) {
+    let Some(rest) = text.get_mut(pos..) else {
+        return;
+    };
+    for (byte, digit) in rest.iter_mut().zip(n.to_be_bytes()) {
         *byte = digit;
     }
 }
@@ -65,13 +68,14 @@ pub fn place_count(heap: Global, program: &ValidProgram) -> Result<usize, AllocE
     Ok(places_of(heap, program.bytes())?.len())
 }
 
-// The program with a statement replaced; none if it has no such part, or the program is not valid then.
+// The program with a statement replaced; none if it has no such part, or the program is not valid then. The way may be given by its number.
 pub fn simpler(
     heap: Global,
     program: &ValidProgram,
     place: usize,
-    way: Way,
+    way: impl Into<Way>,
 ) -> Result<Option<ValidProgram>, AllocError> {
+    let way = way.into();
     let text = program.bytes();
     let places = places_of(heap, text)?;
     let Some(&start) = places.get(place) else {
