@@ -1,5 +1,5 @@
 // Single tokens.
-ghost use Rattle.std.specs.Prelude.{◌≡◌, ◌+◌, ◌<◌, ◌≤◌, ◌↔◌, T, length, IfOk, IsTrue, OnOk, OnSome, vec_len};
+ghost use Rattle.std.specs.Prelude.{◌≡◌, ◌+◌, ◌<◌, ◌≤◌, ◌↔◌, T, false, length, IfOk, IsTrue, OnOk, OnErr, OnSome, vec_len};
 ghost use Rattle.parser.specs.Reading.{next, Skips};
 
 use crate::parser::Parser;
@@ -36,6 +36,7 @@ impl<'a> Parser<'a> {
         ensures is { IsTrue result ↔ (next self.old ≡ Some (Token.Key key)) }
         ensures on { Skips self.old self.new }
         ensures past { T result → self.new.at ≡ self.old.at + 1 }
+        ensures stays { result ≡ false → self.new.at ≡ self.old.at }
     {
         if self.peek() != Some(Token::Key(key)) {
             return false;
@@ -55,6 +56,8 @@ impl<'a> Parser<'a> {
     pub fn expect(&mut self, key: Key, what: Expected) -> Result<(), ParseError>
         ensures is { OnOk result (next self.old ≡ Some (Token.Key key)) }
         ensures on { Skips self.old self.new }
+        ensures past { OnOk result (self.new.at ≡ self.old.at + 1) }
+        ensures stays { OnErr result (self.new.at ≡ self.old.at) }
     {
         if !self.eat(key) {
             return Err(self.missing(what));
@@ -66,6 +69,8 @@ impl<'a> Parser<'a> {
     pub fn number(&mut self) -> Result<u64, ParseError>
         ensures is { IfOk result (λ n. next self.old ≡ Some (Token.Number n)) }
         ensures on { Skips self.old self.new }
+        ensures past { OnOk result (self.new.at ≡ self.old.at + 1) }
+        ensures stays { OnErr result (self.new.at ≡ self.old.at) }
     {
         let Some(Token::Number(n)) = self.peek() else {
             return Err(self.missing(Expected::Number));
@@ -79,6 +84,7 @@ impl<'a> Parser<'a> {
         ensures is { IfOk result (λ w. next self.old ≡ Some (Token.Word w)) }
         ensures on { Skips self.old self.new }
         ensures past { OnOk result (self.new.at ≡ self.old.at + 1) }
+        ensures stays { OnErr result (self.new.at ≡ self.old.at) }
     {
         let Some(Token::Word(word)) = self.peek() else {
             return Err(self.missing(what));

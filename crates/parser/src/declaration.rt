@@ -1,6 +1,6 @@
 // Declarations of variables and arrays.
-ghost use Rattle.std.specs.Prelude.{◌≡◌, ◌+◌, ◌<◌, ◌≤◌, length, OnSome, vec_len};
-ghost use Rattle.parser.specs.Reading.{ReadsOn, Skips};
+ghost use Rattle.std.specs.Prelude.{◌≡◌, ◌+◌, ◌<◌, ◌≤◌, length, OnOk, OnSome, vec_len};
+ghost use Rattle.parser.specs.Reading.{Declares, Skips};
 
 use crate::parser::{Array, Parser};
 use grammar::{Expected, ParseError};
@@ -17,7 +17,8 @@ enum Sort {
 impl<'a> Parser<'a> {
     // A word that is not declared yet.
     fn new_word(&mut self) -> Result<usize, ParseError>
-        ensures { Skips self.old self.new }
+        ensures on { Skips self.old self.new }
+        ensures past { OnOk result (self.new.at ≡ self.old.at + 1) }
     {
         let place = self.at;
         let word = self.word(Expected::Word)?;
@@ -29,7 +30,8 @@ impl<'a> Parser<'a> {
 
     // One variable.
     fn declare_variable(&mut self) -> Result<(), ParseError>
-        ensures { ReadsOn self.old self.new }
+        ensures on { Declares self.old self.new }
+        ensures arrays { self.new.arrays ≡ self.old.arrays }
     {
         let place = self.at;
         let word = self.new_word()?;
@@ -42,7 +44,8 @@ impl<'a> Parser<'a> {
 
     // One array with its length.
     fn declare_array(&mut self) -> Result<(), ParseError>
-        ensures { ReadsOn self.old self.new }
+        ensures on { Declares self.old self.new }
+        ensures variables { self.new.variables ≡ self.old.variables }
     {
         let place = self.at;
         let word = self.new_word()?;
@@ -62,7 +65,7 @@ impl<'a> Parser<'a> {
 
     // One variable or array.
     fn declare(&mut self, sort: Sort) -> Result<(), ParseError>
-        ensures { ReadsOn self.old self.new }
+        ensures { Declares self.old self.new }
     {
         match sort {
             Sort::Variable => self.declare_variable(),
@@ -72,7 +75,7 @@ impl<'a> Parser<'a> {
 
     // Variables or arrays between commas.
     fn declare_all(&mut self, sort: Sort) -> Result<(), ParseError>
-        ensures { ReadsOn self.old self.new }
+        ensures { Declares self.old self.new }
     {
         self.declare(sort)?;
         while self.eat(Key::Comma) {
@@ -83,7 +86,7 @@ impl<'a> Parser<'a> {
 
     // What the next words are declared as, if a declaration begins here.
     fn declares(&mut self) -> Option<Sort>
-        ensures on { ReadsOn self.old self.new }
+        ensures on { Skips self.old self.new }
         ensures past { OnSome result (self.old.at < self.new.at) }
     {
         if self.eat(Key::Names) {
@@ -97,7 +100,7 @@ impl<'a> Parser<'a> {
 
     // All declarations.
     pub fn declarations(&mut self) -> Result<(), ParseError>
-        ensures { ReadsOn self.old self.new }
+        ensures { Declares self.old self.new }
     {
         while let Some(sort) = self.declares() {
             self.declare_all(sort)?;

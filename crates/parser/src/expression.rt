@@ -1,6 +1,6 @@
 // Terms and tests: operators by levels, each over the operands of the level below.
 ghost use Rattle.std.specs.Prelude.{◌≡◌, ◌+◌, ◌<◌, ◌≤◌, length, vec_len};
-ghost use Rattle.parser.specs.Reading.{ReadsOn};
+ghost use Rattle.parser.specs.Reading.{ReadsExpr};
 
 use crate::operator::made_by;
 use crate::parser::Parser;
@@ -28,7 +28,7 @@ fn must_be(read: Kind, kind: Kind, at: usize) -> Result<(), ParseError> {
 impl<'a> Parser<'a> {
     // A number or a variable.
     fn simple(&mut self) -> Result<Kind, ParseError>
-        ensures { ReadsOn self.old self.new }
+        ensures { ReadsExpr self.old self.new }
     {
         match self.peek() {
             Some(Token::Number(n)) => {
@@ -52,7 +52,7 @@ impl<'a> Parser<'a> {
     #[cycle(expression)]
     fn element(&mut self, left: usize) -> Result<Kind, ParseError>
         requires { self.old.at + 1 < length self.old.tokens.now }
-        ensures { ReadsOn self.old self.new }
+        ensures { ReadsExpr self.old self.new }
     {
         let place = self.at;
         let word = self.word(Expected::Term)?;
@@ -71,7 +71,7 @@ impl<'a> Parser<'a> {
     // What operators join: a number, a variable, an element, a negation, or anything in parentheses.
     #[cycle(expression)]
     fn operand(&mut self, left: usize) -> Result<Kind, ParseError>
-        ensures { ReadsOn self.old self.new }
+        ensures { ReadsExpr self.old self.new }
     {
         if left == 0 {
             return Err(ParseError::TooDeep(self.at));
@@ -106,7 +106,7 @@ impl<'a> Parser<'a> {
         left: usize,
     ) -> Result<Kind, ParseError>
         requires { (start ≤ vec_len self.old.program) × (0 < level) }
-        ensures { ReadsOn self.old self.new }
+        ensures { ReadsExpr self.old self.new }
     {
         let at = self.at;
         let right = self.operators(level - 1, left)?;
@@ -118,7 +118,7 @@ impl<'a> Parser<'a> {
     // Operators of a level, grouped to the left, and their operands.
     #[cycle(expression)]
     fn operators(&mut self, level: usize, left: usize) -> Result<Kind, ParseError>
-        ensures { ReadsOn self.old self.new }
+        ensures { ReadsExpr self.old self.new }
     {
         if level == 0 {
             return self.operand(left);
@@ -133,7 +133,7 @@ impl<'a> Parser<'a> {
 
     // A term or a test.
     pub fn expression(&mut self, kind: Kind, left: usize) -> Result<(), ParseError>
-        ensures { ReadsOn self.old self.new }
+        ensures { ReadsExpr self.old self.new }
     {
         let at = self.at;
         let read = self.operators(DISJUNCTION, left)?;

@@ -1,6 +1,6 @@
 // The operators, by levels: 1 products, 2 sums, 3 comparisons, 4 conjunctions, 5 disjunctions. Levels are numbers, since the recursion counts them down.
-ghost use Rattle.std.specs.Prelude.{◌≡◌, ◌+◌, ◌<◌, ◌≤◌, length, OnSome, vec_len};
-ghost use Rattle.parser.specs.Reading.{ReadsOn};
+ghost use Rattle.std.specs.Prelude.{◌≡◌, ◌+◌, ◌<◌, ◌≤◌, None, length, OnSome, vec_len};
+ghost use Rattle.parser.specs.Reading.{Skips};
 
 use crate::parser::Parser;
 use grammar::{Kind, Operator};
@@ -57,8 +57,9 @@ pub fn made_by(operator: Operator) -> Kind {
 impl<'a> Parser<'a> {
     // Goes past an operator of a level that joins such operands, if one is next.
     pub fn operator(&mut self, level: usize, kind: Kind) -> Option<Operator>
-        ensures on { ReadsOn self.old self.new }
+        ensures on { Skips self.old self.new }
         ensures past { OnSome result (self.new.at ≡ self.old.at + 1) }
+        ensures stays { result ≡ None → self.new.at ≡ self.old.at }
     {
         let Some(Token::Key(key)) = self.peek() else {
             return None;

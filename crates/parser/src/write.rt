@@ -1,6 +1,6 @@
 // Pieces of the encoding.
 ghost use Rattle.std.specs.Prelude.{◌≡◌, ◌≤◌, vec_len};
-ghost use Rattle.parser.specs.Reading.{ReadsOn};
+ghost use Rattle.parser.specs.Reading.{ReadsOn, ReadsExpr};
 
 use crate::parser::{Array, Parser};
 use grammar::Operator;
@@ -27,7 +27,8 @@ pub fn header(heap: Global, variables: u8, arrays: &[Array]) -> Result<Vec<u8>, 
 impl<'a> Parser<'a> {
     // The head of a numbered statement that begins at a place: its tag and its number. Each tag stands once, where its statement is written.
     pub fn write_head(&mut self, tag: u8, place: usize) -> Result<(), AllocError>
-        ensures { ReadsOn self.old self.new }
+        ensures on { ReadsOn self.old self.new }
+        ensures stays { self.new.at ≡ self.old.at }
     {
         self.places.push(place)?;
         self.program.push(tag)?;
@@ -38,7 +39,8 @@ impl<'a> Parser<'a> {
     // An operator, before its operands that stand from `start` on.
     pub fn write_operator(&mut self, start: usize, operator: Operator) -> Result<(), AllocError>
         requires { start ≤ vec_len self.old.program }
-        ensures { ReadsOn self.old self.new }
+        ensures on { ReadsExpr self.old self.new }
+        ensures stays { self.new.at ≡ self.old.at }
     {
         match operator {
             Operator::Arithmetic(op) => {
