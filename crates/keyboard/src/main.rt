@@ -6,14 +6,23 @@ use console::{Line, alarm_line, bounds_line, parse_line, refusal_line};
 use session::{Row, Session};
 use std::{fs, io};
 
-const HELP: &str = "\
-load FILE      take the encoded program in FILE
-alarms         list where the program can go wrong
-at the end N   tell where variable N lies when a run ends
-help           show these lines";
+const HELP: [&str; 4] = [
+    "load FILE      take the encoded program in FILE",
+    "alarms         list where the program can go wrong",
+    "at the end N   tell where variable N lies when a run ends",
+    "help           show these lines",
+];
 
 // The number by which the machine refuses what is no command; a session gives it as the machine does.
 const NO_COMMAND: u64 = 1;
+
+// Line by line, so that a reader that stops has those before.
+fn help(rt: &HostRuntime) -> io::Result<()> {
+    for line in HELP {
+        println!(rt; "{line}")?;
+    }
+    Ok(())
+}
 
 fn refuse(rt: &HostRuntime, number: u64) -> io::Result<()> {
     rt.println(refusal_line(rt.alloc(), number)?)
@@ -69,7 +78,7 @@ fn at_end(rt: &HostRuntime, session: &mut Session, name: &str) -> io::Result<()>
 fn answer(rt: &HostRuntime, session: &mut Session, line: &str) -> io::Result<()> {
     match parse_line(line) {
         Line::Blank => Ok(()),
-        Line::Help => println!(rt; "{HELP}"),
+        Line::Help => help(rt),
         Line::Alarms => alarms(rt, session),
         Line::AtEnd(name) => at_end(rt, session, name),
         Line::Load(path) => load(rt, session, path),

@@ -6,7 +6,7 @@ use anyhow::anyhow;
 use outcome::exit_code;
 use printer::{PrintError, print_program};
 use std::process::ExitCode;
-use std::{env, fs, io};
+use std::{env, fs};
 
 fn list(rt: &HostRuntime, path: &str) -> anyhow::Result<()> {
     let heap = rt.alloc();
@@ -28,6 +28,7 @@ fn run(rt: &HostRuntime) -> anyhow::Result<()> {
         .try_for_each(|path| list(rt, path.as_str()))
 }
 
-fn main(rt: HostRuntime) -> io::Result<ExitCode> {
-    exit_code(&rt, "listing", run(&rt))
+// An anyhow error, which is printed by its words, in case the message itself can't be written.
+fn main(rt: HostRuntime) -> anyhow::Result<ExitCode> {
+    Ok(exit_code(&rt, "listing", run(&rt))?)
 }

@@ -7,7 +7,7 @@ use outcome::exit_code;
 use script::{ScriptError, hex_text, split_commands};
 use session::{Answer, Session};
 use std::process::ExitCode;
-use std::{env, fs, io};
+use std::{env, fs};
 
 fn show(rt: &HostRuntime, answer: &Answer) -> anyhow::Result<()> {
     let heap = rt.alloc();
@@ -47,6 +47,7 @@ fn run(rt: &HostRuntime) -> anyhow::Result<()> {
         .try_for_each(|path| replay(rt, path.as_str()))
 }
 
-fn main(rt: HostRuntime) -> io::Result<ExitCode> {
-    exit_code(&rt, "replay", run(&rt))
+// An anyhow error, which is printed by its words, in case the message itself can't be written.
+fn main(rt: HostRuntime) -> anyhow::Result<ExitCode> {
+    Ok(exit_code(&rt, "replay", run(&rt))?)
 }
