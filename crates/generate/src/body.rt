@@ -1,7 +1,7 @@
 // A random program, written as bytes.
 use crate::draft::Draft;
 use crate::tags::Statement;
-use program::LIMIT;
+use program::{LIMIT, LOAD};
 use random::Random;
 use std::alloc::AllocError;
 
@@ -29,11 +29,11 @@ impl Draft {
         }
     }
 
-    // How many variables there are, and how long the arrays are.
+    // The first byte of the command that loads the program, how many variables there are, and how long the arrays are.
     fn header(&mut self) -> Result<(), AllocError> {
         let arrays = self.arrays;
         let lengths = self.lengths;
-        self.write(&[self.vars])?;
+        self.write(&[LOAD, self.vars])?;
         self.word(u64::from(arrays))?;
         for length in lengths.iter().take(usize::from(arrays)) {
             self.word(*length)?;
@@ -55,8 +55,8 @@ impl Draft {
         self.block(4, 2)
     }
 
-    // Writes a random program.
-    pub fn program(&mut self) -> Result<(), AllocError> {
+    // Writes a random program, as the command that loads it.
+    pub(crate) fn program(&mut self) -> Result<(), AllocError> {
         self.prepare();
         self.header()?;
         self.body()

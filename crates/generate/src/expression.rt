@@ -18,6 +18,11 @@ impl Draft {
         }
     }
 
+    // A number.
+    pub fn number(&mut self, n: u64) -> Result<(), AllocError> {
+        self.term(Term::Number(n))
+    }
+
     // The first byte of a test.
     pub(crate) fn tested(&mut self, test: Test) -> Result<(), AllocError> {
         self.write(&[test as u8])

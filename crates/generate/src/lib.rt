@@ -10,4 +10,5 @@ mod statement;
 mod tags;
 mod whole;
 
+pub use draft::Draft;
 pub use whole::{Made, make_program};

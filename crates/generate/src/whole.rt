@@ -2,7 +2,7 @@
 use crate::draft::Draft;
 use random::Random;
 use std::alloc::{AllocError, Global};
-use valid::{ValidProgram, load_command};
+use valid::ValidProgram;
 
 // A valid program, and the ends of its inputs' ranges.
 #[derive(Drop)]
@@ -22,6 +22,5 @@ pub fn make_program(heap: Global, random: &mut Random) -> Result<Option<Made>, A
         ..
     } = draft;
     *random = after;
-    let command = load_command(heap, out.as_slice())?;
-    Ok(ValidProgram::new(command).map(|program| Made { program, ends }))
+    Ok(ValidProgram::new(out).map(|program| Made { program, ends }))
 }
