@@ -28,8 +28,9 @@ fn analyse_body(task: &Task, body: usize, table: &mut [u64]) -> Abstract
 pub fn load(memory: &mut [u64; WORDS], text: &[u8], header: &Header)
     ensures { (l : Loads text.now header.now) → memory.new ≡ laid 0 l.program }
 {
-    let task = task_of(text, header, &mut memory[SCRATCH..WORDS]);
+    // Made before the task: behind it, the compiler would clear it twice.
     let mut table = [0; SLOTS];
+    let task = task_of(text, header, &mut memory[SCRATCH..WORDS]);
     let state = analyse_body(&task, header.body, &mut table);
     store(memory, header.vars, &state, &table);
 }
