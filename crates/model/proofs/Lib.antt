@@ -10,6 +10,7 @@ pub mod Session
 pub mod Owed
 pub mod Load
 pub mod Texts
+pub mod Few
 pub mod Analysed
 pub mod Laid
 pub mod Rows

@@ -17,6 +17,10 @@ pub all_right : (P : ℕ → Type 0) (xs ys : List ℕ) → All P (xs ++ ys) →
 all_right P [] ys h = h
 all_right P (x ∷ xs) ys h = all_right P xs ys h.1
 
+-- a statement that is known to be of one form is ready in that form
+pub ready_as : (text : List ℕ) (pos left : ℕ) (d e : Stmt) → d ≡ e → StmtReady text pos left d → StmtReady text pos left e
+ready_as text pos left d e q h = subst (StmtReady text pos left) q h
+
 module _ (text : List ℕ) (pos left : ℕ) (d : Stmt) (h : StmtReady text pos left d) where
   -- the conditions on d, at the form that it has
   valid_as : (e : Stmt) → d ≡ e → valid_stmt h.variables h.arrays e ≡ true
