@@ -1,5 +1,5 @@
 -- Words and numbers, by the runs of their bytes. Rests on the definitions alone.
-use Rattle.std.proofs.Common.{◌≡◌, ℕ, ◌+◌, ◌-◌, ◌^◌, ◌<◌, ◌≤◌, Bool, true, false, List, length, get_or, take, drop, IsUtf8, Option, Result, Ok, Err, MatchResult, sym, refl, ◌∙◌, subst, arith, rules, get_or-drop, lt-ltb, nat_lt}
+use Rattle.std.proofs.Common.{◌≡◌, ℕ, ◌+◌, ◌-◌, ◌^◌, ◌<◌, ◌≤◌, Bool, true, false, List, length, get_or, take, drop, IsUtf8, Option, Result, Ok, Err, sym, refl, ◌∙◌, subst, arith, rules, get_or-drop, lt-ltb, nat_lt}
 use Rattle.std.proofs.lemmas.Bool.{ltb-true}
 use Rattle.std.specs.Str.{IsCharBoundary}
 use Rattle.std.specs.Str.Parse.{ParsesUnsigned}
@@ -13,7 +13,7 @@ use Rattle.std.proofs.lemmas.Str.Parse.{IsNumeralModel, numerals_by_fold, tells_
 use Rattle.std.proofs.lemmas.Bool.Decides.{nat_tests}
 use Rattle.lexer.specs.declared.types.Key.{Key}
 use Rattle.lexer.specs.Keys.{keyword, symbol}
-use Rattle.lexer.specs.Lexing.{letter, digit, word_byte, run, value, number, large, token, first, word_or_key, first_word, first_number, symbol_or_strange}
+use Rattle.lexer.specs.Lexing.{letter, digit, word_byte, run, value, number, large, token, first, word_or_key, first_word, first_number, number_or_large, symbol_or_strange}
 
 pub letter_word : (b : ℕ) → letter b ≡ true → word_byte b ≡ true
 letter_word b h = grind (arith, nat_tests)
@@ -77,10 +77,15 @@ digits_run bs ds i end e d k h =
     let e₁ : get_or ds k 0 ≡ get_or (drop i bs) k 0 = rw (d, n) (get_or-take (run digit (drop i bs)) (drop i bs) k 0 l) in
     subst (IsInRange 48 57) (sym e₁) (digit_range (get_or (drop i bs) k 0) (prefix_len_passes digit (drop i bs) k 0 l))
 
--- of a run of digits cut out, what was read of them; or they are too large
-pub number_read : {E : Type 0} (bs ds : List ℕ) (i end : ℕ) (r : Result ℕ E) → i < end → end ≡ i + run digit (drop i bs) → ds ≡ take (end - i) (drop i bs) → ParsesUnsigned 32 10 ds r →
-    MatchResult r (λ n. (n < 2 ^ 32) × (token (number n) (end - i) ≡ first_number (run digit (drop i bs)) (drop i bs))) (λ _. large ≡ first_number (run digit (drop i bs)) (drop i bs))
-number_read {E} bs ds i end r s e d p = go r (parse_digits own 32 ds r p (digits_run bs ds i end e d))
+-- what was read of the digits at a byte: their number, if they are not too large, or that they are
+abbrev pub DigitsRead : {E : Type 0} → ℕ → List ℕ → ℕ → ℕ → Result ℕ E → Type 0
+DigitsRead k bs i end (Ok n) = (n < 2 ^ k) × (number_or_large n (end - i) ≡ first_number (run digit (drop i bs)) (drop i bs))
+DigitsRead k bs i end (Err _) = large ≡ first_number (run digit (drop i bs)) (drop i bs)
+
+-- of a run of digits cut out, by k bits
+pub number_read : {E : Type 0} (k : ℕ) (bs ds : List ℕ) (i end : ℕ) (r : Result ℕ E) → 2 ^ 32 ≤ 2 ^ k → i < end → end ≡ i + run digit (drop i bs) → ds ≡ take (end - i) (drop i bs) → ParsesUnsigned k 10 ds r →
+    DigitsRead k bs i end r
+number_read {E} k bs ds i end r wide s e d p = go r (parse_digits own k ds r p (digits_run bs ds i end e d))
   where
     n : end - i ≡ run digit (drop i bs)
     n = omega arith
@@ -91,14 +96,16 @@ number_read {E} bs ds i end r s e d p = go r (parse_digits own 32 ds r p (digits
     some : 0 < length ds
     some = let q : length ds ≡ run digit (drop i bs) = rw (d, n) (length-prefix_len digit (drop i bs)) in omega arith
 
-    cut : (b : Bool) → nat_lt (value 0 ds) (2 ^ 32) ≡ b → ((0 < length ds) × (value 0 ds < 2 ^ 32) → ⊥) → b ≡ false
-    cut true e h = absurd (h (some, ltb-true (value 0 ds) (2 ^ 32) e))
+    cut : (b : Bool) → nat_lt (value 0 ds) (2 ^ 32) ≡ b → ((0 < length ds) × (value 0 ds < 2 ^ k) → ⊥) → b ≡ false
+    cut true e h = let l = ltb-true (value 0 ds) (2 ^ 32) e in absurd (h (some, omega (arith, wide)))
     cut false e h = refl
 
-    go : (r : Result ℕ E) → OkIff r ((0 < length ds) × (value 0 ds < 2 ^ 32)) (value 0 ds) →
-        MatchResult r (λ m. (m < 2 ^ 32) × (token (number m) (end - i) ≡ first_number (run digit (drop i bs)) (drop i bs))) (λ _. large ≡ first_number (run digit (drop i bs)) (drop i bs))
+    go : (r : Result ℕ E) → OkIff r ((0 < length ds) × (value 0 ds < 2 ^ k)) (value 0 ds) → DigitsRead k bs i end r
     go (Ok m) h =
-        let m_lt : m < 2 ^ 32 = rw h.1 h.0.1 in
         let g : value 0 (take (run digit (drop i bs)) (drop i bs)) ≡ m = v ∙ sym h.1 in
-        (m_lt, rw (g, n, lt-ltb m (2 ^ 32) m_lt) refl)
+        (rw h.1 h.0.1, rw (g, n) refl)
     go (Err x) h = rw (v, cut (nat_lt (value 0 ds) (2 ^ 32)) refl h) refl
+
+-- a number below the limit is a token
+pub number_fits : (n size : ℕ) → n < 2 ^ 32 → number_or_large n size ≡ token (number n) size
+number_fits n size h = rw (lt-ltb n (2 ^ 32) h) refl

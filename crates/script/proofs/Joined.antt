@@ -83,15 +83,18 @@ pub first_stands : (file c rest : List ℕ) (n : ℕ) → Stands file 0 (eight n
 unfolding in_bytes
 first_stands file c rest n s l e = rw (l, ← e) s
 
--- what stands behind a first number is taken apart by it, or is too short for it
-pub begins_so : (file : List ℕ) (n : ℕ) (r : Option (Bor (List ℕ) × Bor (List ℕ))) → n < 2 ^ 64 → length file < 2 ^ 64 → 8 ≤ length file → Stands file 0 (eight n) →
-    MatchOption r (length (take (length file - 8) (drop 8 file)) < n) (λ p. IsSplitAt (take (length file - 8) (drop 8 file)) n p.0.now p.1.now) → Begins file r
-begins_so file n None h l some s short =
+-- a first number that is too large for what stands behind it
+pub too_short : (file : List ℕ) (n : ℕ) → n < 2 ^ 64 → length file < 2 ^ 64 → Stands file 0 (eight n) → length file < 8 + n → Begins file None
+too_short file n h l s short =
     λ c rest e.
     let k = begins_long file c rest e in
     let size = first_size file c rest n h l s e in
-    let behind = ap length (behind_eight file) in
-    omega (arith, simp length-drop at behind)
+    omega arith
+
+-- what stands behind a first number is taken apart by it, or is too short for it
+pub begins_so : (file : List ℕ) (n : ℕ) (r : Option (Bor (List ℕ) × Bor (List ℕ))) → n < 2 ^ 64 → length file < 2 ^ 64 → 8 ≤ length file → Stands file 0 (eight n) →
+    MatchOption r (length (take (length file - 8) (drop 8 file)) < n) (λ p. IsSplitAt (take (length file - 8) (drop 8 file)) n p.0.now p.1.now) → Begins file r
+begins_so file n None h l some s short = let behind = ap length (behind_eight file) in too_short file n h l s (omega (arith, simp length-drop at behind))
 begins_so file n (Some p) h l some s split =
     let all = take (length file - 8) (drop 8 file) in
     first_stands file p.0.now p.1.now n s split.3
