@@ -77,12 +77,12 @@ digits_run bs ds i end e d k h =
     let e₁ : get_or ds k 0 ≡ get_or (drop i bs) k 0 = rw (d, n) (get_or-take (run digit (drop i bs)) (drop i bs) k 0 l) in
     subst (IsInRange 48 57) (sym e₁) (digit_range (get_or (drop i bs) k 0) (prefix_len_passes digit (drop i bs) k 0 l))
 
--- what was read of the digits at a byte: their number, if they are not too large, or that they are
+-- what k bits read of the digits at a byte: a number, which is a token or too large; or nothing, since they are too large
 abbrev pub DigitsRead : {E : Type 0} → ℕ → List ℕ → ℕ → ℕ → Result ℕ E → Type 0
 DigitsRead k bs i end (Ok n) = (n < 2 ^ k) × (number_or_large n (end - i) ≡ first_number (run digit (drop i bs)) (drop i bs))
 DigitsRead k bs i end (Err _) = large ≡ first_number (run digit (drop i bs)) (drop i bs)
 
--- of a run of digits cut out, by k bits
+-- of a run of digits cut out, what k bits read of it
 pub number_read : {E : Type 0} (k : ℕ) (bs ds : List ℕ) (i end : ℕ) (r : Result ℕ E) → 2 ^ 32 ≤ 2 ^ k → i < end → end ≡ i + run digit (drop i bs) → ds ≡ take (end - i) (drop i bs) → ParsesUnsigned k 10 ds r →
     DigitsRead k bs i end r
 number_read {E} k bs ds i end r wide s e d p = go r (parse_digits own k ds r p (digits_run bs ds i end e d))

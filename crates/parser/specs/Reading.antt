@@ -1,5 +1,5 @@
 -- How a parser reads on. Assumes nothing: these are definitions.
-use Rattle.std.specs.Prelude.{◌≡◌, ◌≤◌, length, Option, slice_get, vec_len}
+use Rattle.std.specs.Prelude.{◌≡◌, ◌≤◌, Option, slice_get, vec_len}
 use Rattle.lexer.specs.declared.types.Token.{Token}
 use Rattle.parser.specs.declared.parser.Parser.{Parser}
 
